@@ -1,0 +1,21 @@
+-- `trailer::valid` meets its contract: its tests are those of `fieldTests`, in that order.
+use Rattle.trailer.specs.Valid.{validB}
+use borrow.Author.Needs.{needs}
+use Rattle.trailer.proofs.valid.Statement.{statement}
+use Rattle.trailer.proofs.valid.Tie as tie
+
+general-ok-requires : tie.Need-general-ok-requires
+general-ok-requires c κs = search needs
+
+soft-requires : tie.Need-soft-requires
+soft-requires c κs = search needs
+
+sector-ok-requires : tie.Need-sector-ok-requires
+sector-ok-requires c κs = search needs
+
+returns : tie.Need-returns
+unfolding validB
+returns c = simp (← c .before .before .before .before .before .before .before .before .before .before .before .before .before .before .before .before .general-ok .ensures, ← c .before .before .before .before .before .before .before .before .before .soft .ensures, ← c .before .before .before .before .before .before .before .before .sector-ok .ensures)
+
+pub valid-spec : {M : Type 1} → statement M
+valid-spec = tie.close (tie.spec general-ok-requires soft-requires sector-ok-requires returns)

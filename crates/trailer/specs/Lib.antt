@@ -1,0 +1,5 @@
+pub mod Profile
+pub mod General
+pub mod Fields
+pub mod Bytes
+pub mod Valid

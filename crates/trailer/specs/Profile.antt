@@ -1,0 +1,21 @@
+-- What a pack's profile says of its medium, and the numbers of a trailer.
+use Prim.Native.Nat.{ℕ, _*_, _<_}
+use mathlib.Core.Path.{_≡_}
+use Rattle.trailer.specs.declared.Shape.{Shape}
+
+-- "a 44-byte trailer"
+abbrev pub trailerLength : ℕ
+trailerLength = 44
+
+-- "39: form 1"
+abbrev pub formOne : ℕ
+formOne = 1
+
+-- "cylinders × heads × track length"
+abbrev pub mediumOf : Shape → ℕ
+mediumOf s = s .cylinders .0 * s .heads .0 * s .track .0
+
+-- the medium's bytes, whatever the fields say
+pub record Medium (s : Shape) (r : ℕ) : Type 0 where
+  pub is : r ≡ mediumOf s
+  pub most : r < 144115188075855872

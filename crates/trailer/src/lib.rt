@@ -1,0 +1,291 @@
+// A pack's trailer: the profile of its drive, as 44 bytes and back, and which fields may stand.
+use counts::Cylinder;
+use counts::Head;
+use counts::Micros;
+use counts::Place;
+ghost use mathlib.Core.Path.{_≡_};
+ghost use Prim.Native.Nat.{_+_, _*_, _<_};
+ghost use Rattle.counts.specs.Bytes.{one as byteOf, two as twoOf, four as fourOf};
+ghost use Rattle.trailer.specs.Profile.{Medium};
+ghost use Rattle.trailer.specs.Fields.{ShapeIs, TimesIs, profileOf};
+ghost use Rattle.trailer.specs.Bytes.{trailerOf};
+ghost use Rattle.trailer.specs.General.{offsetOption, motorOption, removable as removableB, soft as softB, generalOk};
+ghost use Rattle.trailer.specs.Valid.{sectorOk, validB, zerosB};
+
+#[repr(C)]
+pub struct Shape {
+    pub cylinders: Cylinder,
+    pub heads: Head,
+    pub track: Place,
+    pub sector: Place,
+}
+
+#[repr(C)]
+pub struct Times {
+    pub settle: Micros,
+    pub step: Micros,
+    pub switch: Micros,
+    pub recalibrate: Micros,
+    pub start: Micros,
+    pub diagnostic: Micros,
+    pub offset: Micros,
+}
+
+#[repr(C)]
+pub struct Profile {
+    pub slot: u8,
+    pub vendor: u8,
+    pub general: u16,
+    pub gap: u8,
+    pub sync: u8,
+    pub protected: u8,
+    pub shape: Shape,
+    pub times: Times,
+}
+
+impl Profile {
+    // The trailer's bytes, and the form it names.
+    pub const TRAILER: usize = 44;
+
+    pub const FORM: u8 = 1;
+}
+
+// A byte of a trailer; past the end it reads 0, so nothing is asked of the caller.
+fn byte(t: &[u8], k: usize) -> u8
+    ensures { λ r. ⌜ r ≡ byteOf (now (t .entry)) k ⌝ }
+{
+    if k < t.len() {
+        return t[k];
+    }
+    0
+}
+
+fn join2(a: u8, b: u8) -> u16
+    ensures { λ r. ⌜ r ≡ a * 256 + b ⌝ }
+{
+    (a as u16) * 256 + (b as u16)
+}
+
+fn join4(a: u8, b: u8, c: u8, d: u8) -> u32
+    ensures { λ r. ⌜ r ≡ ((a * 256 + b) * 256 + c) * 256 + d ⌝ }
+{
+    (((a as u32) * 256 + (b as u32)) * 256 + (c as u32)) * 256 + (d as u32)
+}
+
+fn two(t: &[u8], k: u8) -> u16
+    ensures { λ r. ⌜ r ≡ twoOf (now (t .entry)) k ⌝ }
+{
+    let at = k as usize;
+    join2(byte(t, at), byte(t, at + 1))
+}
+
+fn two_wide(t: &[u8], k: u8) -> u32
+    ensures { λ r. ⌜ r ≡ twoOf (now (t .entry)) k ⌝ }
+{
+    two(t, k) as u32
+}
+
+fn four(t: &[u8], k: u8) -> u32
+    ensures { λ r. ⌜ r ≡ fourOf (now (t .entry)) k ⌝ }
+{
+    let at = k as usize;
+    join4(
+        byte(t, at),
+        byte(t, at + 1),
+        byte(t, at + 2),
+        byte(t, at + 3),
+    )
+}
+
+// The form that a trailer names.
+pub fn form_of(t: &[u8]) -> u8
+    ensures { λ r. ⌜ r ≡ byteOf (now (t .entry)) 39 ⌝ }
+{
+    byte(t, 39)
+}
+
+// The bytes from the pack's end back to its start.
+pub fn distance_of(t: &[u8]) -> u32
+    ensures { λ r. ⌜ r ≡ fourOf (now (t .entry)) 40 ⌝ }
+{
+    four(t, 40)
+}
+
+// Whether the bytes that must be zero are.
+pub fn zeros(t: &[u8]) -> bool
+    ensures { λ r. ⌜ r ≡ zerosB (now (t .entry)) ⌝ }
+{
+    (byte(t, 1) == 0) & (byte(t, 15) == 0) & (byte(t, 38) == 0)
+}
+
+fn shape_of(t: &[u8]) -> Shape
+    ensures { λ r. ⌜ ShapeIs (now (t .entry)) r ⌝ }
+{
+    Shape {
+        cylinders: Cylinder(two(t, 4)),
+        heads: Head(byte(t, 6)),
+        track: Place(two_wide(t, 8)),
+        sector: Place(two_wide(t, 10)),
+    }
+}
+
+fn times_of(t: &[u8]) -> Times
+    ensures { λ r. ⌜ TimesIs (now (t .entry)) r ⌝ }
+{
+    Times {
+        settle: Micros(four(t, 16)),
+        step: Micros(two_wide(t, 20)),
+        switch: Micros(two_wide(t, 22)),
+        recalibrate: Micros(four(t, 24)),
+        start: Micros(four(t, 28)),
+        diagnostic: Micros(four(t, 32)),
+        offset: Micros(two_wide(t, 36)),
+    }
+}
+
+// The fields of a trailer.
+pub fn profile_of(t: &[u8]) -> Profile
+    ensures { λ r. ⌜ r ≡ profileOf (now (t .entry)) ⌝ }
+{
+    let shape = shape_of(t);
+    let times = times_of(t);
+    Profile {
+        slot: byte(t, 0),
+        vendor: byte(t, 7),
+        general: two(t, 2),
+        gap: byte(t, 12),
+        sync: byte(t, 13),
+        protected: byte(t, 14),
+        shape,
+        times,
+    }
+}
+
+fn product(cylinders: u16, heads: u8, track: u32) -> usize
+    ensures { λ r. ⌜ (r ≡ cylinders * heads * track) × (r < 144115188075855872) ⌝ }
+{
+    (cylinders as usize) * (heads as usize) * (track as usize)
+}
+
+// The bytes of a pack's medium.
+pub fn medium(s: Shape) -> usize
+    ensures { λ r. ⌜ Medium s r ⌝ }
+{
+    product(s.cylinders.0, s.heads.0, s.track.0)
+}
+
+pub fn has_offset_option(general: u16) -> bool
+    ensures { λ r. ⌜ r ≡ offsetOption general ⌝ }
+{
+    general / 8192 % 2 == 1
+}
+
+pub fn has_motor_option(general: u16) -> bool
+    ensures { λ r. ⌜ r ≡ motorOption general ⌝ }
+{
+    general / 32 % 2 == 1
+}
+
+pub fn removable(general: u16) -> bool
+    ensures { λ r. ⌜ r ≡ removableB general ⌝ }
+{
+    general / 128 % 2 == 1
+}
+
+pub fn soft(general: u16) -> bool
+    ensures { λ r. ⌜ r ≡ softB general ⌝ }
+{
+    general / 4 % 2 == 1
+}
+
+fn general_ok(w: u16, switch: u32) -> bool
+    ensures { λ r. ⌜ r ≡ generalOk w switch ⌝ }
+{
+    (w < 32768)
+        & (w / 4096 % 2 == 0)
+        & (w / 1024 % 2 + w / 512 % 2 + w / 256 % 2 == 1)
+        & (w / 128 % 2 + w / 64 % 2 == 1)
+        & ((w / 16 % 2 == 1) == (15 < switch))
+        & (w / 4 % 2 + w / 2 % 2 + w / 1 % 2 == 1)
+}
+
+fn sector_ok(soft: bool, size: u32) -> bool
+    ensures { λ r. ⌜ r ≡ sectorOk soft size ⌝ }
+{
+    if soft {
+        return size == 0;
+    }
+    (162 <= size) & (size <= 4095)
+}
+
+// Whether every field is one that may stand.
+pub fn valid(p: Profile) -> bool
+    ensures { λ r. ⌜ r ≡ validB p ⌝ }
+{
+    ((1 <= p.slot) & (p.slot <= 7))
+        & general_ok(p.general, p.times.switch.0)
+        & ((1 <= p.shape.cylinders.0) & (p.shape.cylinders.0 <= 4096))
+        & ((1 <= p.shape.heads.0) & (p.shape.heads.0 <= 16))
+        & ((4095 <= p.shape.track.0) & (p.shape.track.0 <= 40960))
+        & sector_ok(soft(p.general), p.shape.sector.0)
+        & (p.protected <= 1)
+        & (p.times.settle.0 <= 60000)
+        & (p.times.step.0 <= 1000)
+        & (p.times.switch.0 <= 60000)
+        & (p.times.recalibrate.0 <= 30000000)
+        & (p.times.start.0 <= 30000000)
+        & (p.times.diagnostic.0 <= 30000000)
+        & (p.times.offset.0 <= 60000)
+}
+
+// The 44 bytes of a trailer, high byte first.
+pub fn trailer(p: Profile, distance: u32) -> [u8; 44]
+    ensures { λ r. ⌜ r ≡ trailerOf p distance ⌝ }
+{
+    [
+        p.slot,
+        0,
+        (p.general / 256 % 256) as u8,
+        (p.general % 256) as u8,
+        (p.shape.cylinders.0 / 256 % 256) as u8,
+        (p.shape.cylinders.0 % 256) as u8,
+        p.shape.heads.0,
+        p.vendor,
+        (p.shape.track.0 / 256 % 256) as u8,
+        (p.shape.track.0 % 256) as u8,
+        (p.shape.sector.0 / 256 % 256) as u8,
+        (p.shape.sector.0 % 256) as u8,
+        p.gap,
+        p.sync,
+        p.protected,
+        0,
+        (p.times.settle.0 / 16777216 % 256) as u8,
+        (p.times.settle.0 / 65536 % 256) as u8,
+        (p.times.settle.0 / 256 % 256) as u8,
+        (p.times.settle.0 % 256) as u8,
+        (p.times.step.0 / 256 % 256) as u8,
+        (p.times.step.0 % 256) as u8,
+        (p.times.switch.0 / 256 % 256) as u8,
+        (p.times.switch.0 % 256) as u8,
+        (p.times.recalibrate.0 / 16777216 % 256) as u8,
+        (p.times.recalibrate.0 / 65536 % 256) as u8,
+        (p.times.recalibrate.0 / 256 % 256) as u8,
+        (p.times.recalibrate.0 % 256) as u8,
+        (p.times.start.0 / 16777216 % 256) as u8,
+        (p.times.start.0 / 65536 % 256) as u8,
+        (p.times.start.0 / 256 % 256) as u8,
+        (p.times.start.0 % 256) as u8,
+        (p.times.diagnostic.0 / 16777216 % 256) as u8,
+        (p.times.diagnostic.0 / 65536 % 256) as u8,
+        (p.times.diagnostic.0 / 256 % 256) as u8,
+        (p.times.diagnostic.0 % 256) as u8,
+        (p.times.offset.0 / 256 % 256) as u8,
+        (p.times.offset.0 % 256) as u8,
+        0,
+        Profile::FORM,
+        (distance / 16777216 % 256) as u8,
+        (distance / 65536 % 256) as u8,
+        (distance / 256 % 256) as u8,
+        (distance % 256) as u8,
+    ]
+}
