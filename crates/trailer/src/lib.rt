@@ -6,7 +6,7 @@ use counts::Place;
 ghost use mathlib.Core.Path.{_≡_};
 ghost use Prim.Native.Nat.{_+_, _*_, _<_};
 ghost use Rattle.counts.specs.Bytes.{one as byteOf, two as twoOf, four as fourOf};
-ghost use Rattle.trailer.specs.Profile.{Medium};
+ghost use Rattle.trailer.specs.Profile.{blankProfile, Medium};
 ghost use Rattle.trailer.specs.Fields.{ShapeIs, TimesIs, profileOf};
 ghost use Rattle.trailer.specs.Bytes.{trailerOf};
 ghost use Rattle.trailer.specs.General.{offsetOption, motorOption, removable as removableB, soft as softB, generalOk};
@@ -44,10 +44,43 @@ pub struct Profile {
 }
 
 impl Profile {
-    // The trailer's bytes, and the form it names.
+    // The length of a trailer.
     pub const TRAILER: usize = 44;
 
+    // The form that a trailer names.
     pub const FORM: u8 = 1;
+
+    // What stands where no drive is: all zeros.
+    pub fn blank() -> Profile
+        ensures { λ r. ⌜ r ≡ blankProfile ⌝ }
+    {
+        let none = Micros(0);
+        let shape = Shape {
+            cylinders: Cylinder(0),
+            heads: Head(0),
+            track: Place(0),
+            sector: Place(0),
+        };
+        let times = Times {
+            settle: none,
+            step: none,
+            switch: none,
+            recalibrate: none,
+            start: none,
+            diagnostic: none,
+            offset: none,
+        };
+        Profile {
+            slot: 0,
+            vendor: 0,
+            general: 0,
+            gap: 0,
+            sync: 0,
+            protected: 0,
+            shape,
+            times,
+        }
+    }
 }
 
 // A byte of a trailer; past the end it reads 0, so nothing is asked of the caller.

@@ -15,7 +15,11 @@ sector-ok-requires c κs = search needs
 
 returns : tie.Need-returns
 unfolding validB
-returns c = simp (← c .before .before .before .before .before .before .before .before .before .before .before .before .before .before .before .before .general-ok .ensures, ← c .before .before .before .before .before .before .before .before .before .soft .ensures, ← c .before .before .before .before .before .before .before .before .sector-ok .ensures)
+returns c =
+    let b8 = c .before .before .before .before .before .before .before .before in
+    let b9 = b8 .before in
+    let b16 = b9 .before .before .before .before .before .before .before in
+    simp (← b16 .general-ok .ensures, ← b9 .soft .ensures, ← b8 .sector-ok .ensures)
 
 pub valid-spec : {M : Type 1} → statement M
 valid-spec = tie.close (tie.spec general-ok-requires soft-requires sector-ok-requires returns)

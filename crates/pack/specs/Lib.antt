@@ -1,0 +1,5 @@
+pub mod Refusal
+pub mod Packs
+pub mod Lay
+pub mod Read
+pub mod File

@@ -1,0 +1,22 @@
+-- What a slot holds, and the numbers of a pack file.
+use Prim.Native.Nat.{ℕ}
+use mathlib.Core.List.{List}
+use lib.ListN.{replicate}
+use Rattle.counts.specs.declared.Place.{Place}
+use Rattle.trailer.specs.declared.Profile.{Profile}
+use Rattle.trailer.specs.Profile.{blankProfile}
+use Rattle.pack.specs.declared.Pack.{Pack}
+
+-- "2,147,483,647 bytes"
+abbrev pub longest : ℕ
+longest = 2147483647
+
+abbrev pub noPack : Pack
+noPack = record { fitted = 0; place = record { 0 = 0 }; profile = blankProfile }
+
+abbrev pub fittedPack : Place → Profile → Pack
+fittedPack place p = record { fitted = 1; place = place; profile = p }
+
+-- seven empty slots
+abbrev pub noPacks : List Pack
+noPacks = replicate 7 noPack

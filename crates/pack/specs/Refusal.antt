@@ -1,0 +1,31 @@
+-- "Refusals, with the pack's end as place (0 for 36)": the paper's number of each.
+use Prim.Native.Nat.{ℕ}
+use Rattle.pack.specs.declared.Refusal.{Refusal}
+use Rattle.pack.specs.declared.Refusal.the-variants.{Short, Distance, Form, Field, Size, Order, Large, Room}
+use Rattle.pack.specs.declared.read.Answer.{Answer}
+use Rattle.pack.specs.declared.read.Answer.the-variants as answer
+use Rattle.pack.specs.declared.lay.Laid.{Laid}
+use Rattle.pack.specs.declared.lay.Laid.the-variants as laid
+
+abbrev pub numberOf : Refusal → ℕ
+numberOf Short = 30  -- "fewer than 44 bytes left"
+numberOf Distance = 31  -- "distance below 44 or more than is left"
+numberOf Form = 32  -- "other form"
+numberOf Field = 33  -- "a field"
+numberOf Size = 34  -- "distance isn't cylinders × heads × track length + 44"
+numberOf Order = 35  -- "slots not rising through the file"
+numberOf Large = 36  -- "file over 2,147,483,647 bytes"
+numberOf Room = 37  -- "too little room"
+
+-- 0 where nothing is refused
+abbrev pub readNumber : Answer → ℕ
+readNumber answer.Whole = 0
+readNumber (answer.Refused why place) = numberOf why
+
+abbrev pub readPlace : Answer → ℕ
+readPlace answer.Whole = 0
+readPlace (answer.Refused why place) = place .0
+
+abbrev pub laidNumber : Laid → ℕ
+laidNumber laid.Done = 0
+laidNumber (laid.Refused why) = numberOf why

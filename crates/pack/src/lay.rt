@@ -1,0 +1,53 @@
+// Laying a pack at the start of a lent part.
+use crate::Pack;
+use crate::Refusal;
+use trailer::Profile;
+ghost use mathlib.Core.Path.{_≡_};
+ghost use Prim.Native.Nat.{_+_, _≤_};
+ghost use mathlib.Core.List.{_++_};
+ghost use lib.ListN.{length, replicate, take, drop};
+ghost use Rattle.pack.specs.Lay.{laidAnswer, laidBytes};
+
+pub enum Laid {
+    Done,
+    Refused(Refusal),
+}
+
+fn zero(buffer: &mut [u8], n: usize)
+    requires { ⌜ n ≤ length (now buffer) ⌝ }
+    ensures { λ _. ⌜ now (buffer .exit) ≡ replicate n 0 ++ drop n (now (buffer .entry)) ⌝ }
+{
+    let mut i = 0;
+    while i < n {
+        buffer[i] = 0;
+        i += 1;
+    }
+}
+
+fn put(buffer: &mut [u8], at: usize, t: [u8; 44])
+    requires { ⌜ at + 44 ≤ length (now buffer) ⌝ }
+    ensures { λ _. ⌜ now (buffer .exit) ≡ take at (now (buffer .entry)) ++ t ++ drop (at + 44) (now (buffer .entry)) ⌝ }
+{
+    let n = bytes::copy(&t, &mut buffer[at..]);
+}
+
+// A zeroed medium, then the trailer; a refusal leaves the buffer as it was.
+pub fn lay(p: Profile, buffer: &mut [u8]) -> Laid
+    ensures { λ r. ⌜ (r ≡ laidAnswer p (length (now (buffer .entry)))) × (now (buffer .exit) ≡ laidBytes p (now (buffer .entry))) ⌝ }
+{
+    if !trailer::valid(p) {
+        return Laid::Refused(Refusal::Field);
+    }
+    let shape = p.shape;
+    let medium = trailer::medium(shape);
+    let distance = medium + Profile::TRAILER;
+    if Pack::LONGEST < distance {
+        return Laid::Refused(Refusal::Large);
+    }
+    if buffer.len() < distance {
+        return Laid::Refused(Refusal::Room);
+    }
+    zero(buffer, medium);
+    put(buffer, medium, trailer::trailer(p, distance as u32));
+    Laid::Done
+}
