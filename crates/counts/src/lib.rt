@@ -8,7 +8,11 @@ pub struct Cylinder(pub u16);
 #[repr(C)]
 pub struct Head(pub u8);
 
-// A byte's position in a track, a sector, a medium or a file, or how many bytes.
+// A byte's position in a track, or how many bytes a track or a sector has.
+#[repr(C)]
+pub struct Position(pub u16);
+
+// A byte's place in a file.
 #[repr(C)]
 pub struct Place(pub u32);
 

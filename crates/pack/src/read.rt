@@ -29,7 +29,7 @@ pub enum Last {
 // The pack that ends at n: d is its distance, good whether its fields may stand, medium what they say of its medium,
 // limit the slot of the pack behind it.
 fn verdict(n: u32, limit: u8, d: u32, form: u8, good: bool, medium: usize, p: Profile) -> Last
-    requires { ⌜ medium < 144115188075855872 ⌝ }
+    requires { ⌜ medium < 1099511627776 ⌝ }
     ensures { λ r. ⌜ r ≡ verdictOf n limit d form good medium p ⌝ }
 {
     if d < 44 {

@@ -19,7 +19,7 @@ mediumOf s = s .cylinders .0 * s .heads .0 * s .track .0
 -- the medium's bytes, whatever the fields say
 pub record Medium (s : Shape) (r : ℕ) : Type 0 where
   pub is : r ≡ mediumOf s
-  pub most : r < 144115188075855872
+  pub most : r < 1099511627776
 
 -- what stands where no drive is
 abbrev pub blankProfile : Profile

@@ -2,7 +2,7 @@
 use counts::Cylinder;
 use counts::Head;
 use counts::Micros;
-use counts::Place;
+use counts::Position;
 ghost use mathlib.Core.Path.{_≡_};
 ghost use Prim.Native.Nat.{_+_, _*_, _<_};
 ghost use Rattle.counts.specs.Bytes.{one as byteOf, two as twoOf, four as fourOf};
@@ -16,8 +16,8 @@ ghost use Rattle.trailer.specs.Valid.{sectorOk, validB, zerosB};
 pub struct Shape {
     pub cylinders: Cylinder,
     pub heads: Head,
-    pub track: Place,
-    pub sector: Place,
+    pub track: Position,
+    pub sector: Position,
 }
 
 #[repr(C)]
@@ -58,8 +58,8 @@ impl Profile {
         let shape = Shape {
             cylinders: Cylinder(0),
             heads: Head(0),
-            track: Place(0),
-            sector: Place(0),
+            track: Position(0),
+            sector: Position(0),
         };
         let times = Times {
             settle: none,
@@ -157,8 +157,8 @@ fn shape_of(t: &[u8]) -> Shape
     Shape {
         cylinders: Cylinder(two(t, 4)),
         heads: Head(byte(t, 6)),
-        track: Place(two_wide(t, 8)),
-        sector: Place(two_wide(t, 10)),
+        track: Position(two(t, 8)),
+        sector: Position(two(t, 10)),
     }
 }
 
@@ -194,8 +194,8 @@ pub fn profile_of(t: &[u8]) -> Profile
     }
 }
 
-fn product(cylinders: u16, heads: u8, track: u32) -> usize
-    ensures { λ r. ⌜ (r ≡ cylinders * heads * track) × (r < 144115188075855872) ⌝ }
+fn product(cylinders: u16, heads: u8, track: u16) -> usize
+    ensures { λ r. ⌜ (r ≡ cylinders * heads * track) × (r < 1099511627776) ⌝ }
 {
     (cylinders as usize) * (heads as usize) * (track as usize)
 }
@@ -242,7 +242,7 @@ fn general_ok(w: u16, switch: u32) -> bool
         & (w / 4 % 2 + w / 2 % 2 + w / 1 % 2 == 1)
 }
 
-fn sector_ok(soft: bool, size: u32) -> bool
+fn sector_ok(soft: bool, size: u16) -> bool
     ensures { λ r. ⌜ r ≡ sectorOk soft size ⌝ }
 {
     if soft {

@@ -8,8 +8,8 @@ use Rattle.trailer.proofs.product.Tie as tie
 tracks : (c : tie.Start) → c .args .cylinders * c .args .heads ≤ 16711425
 tracks c = omega (arith, mul-le-mul {n₁ = c .args .cylinders} {m₁ = c .args .heads} {n₂ = 65535} {m₂ = 255} (omega arith) (omega arith))
 
-bytes : (c : tie.Start) → c .args .cylinders * c .args .heads * c .args .track ≤ 71775023827845375
-bytes c = omega (arith, mul-le-mul {m₁ = c .args .track} {m₂ = 4294967295} (tracks c) (omega arith))
+bytes : (c : tie.Start) → c .args .cylinders * c .args .heads * c .args .track ≤ 1095183237375
+bytes c = omega (arith, mul-le-mul {m₁ = c .args .track} {m₂ = 65535} (tracks c) (omega arith))
 
 mul-result : tie.Need-mul-result
 mul-result c = omega (arith, tracks c)
