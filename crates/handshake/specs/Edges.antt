@@ -1,0 +1,76 @@
+-- "Handshake (000, 5.1.5 to 5.2.4)": what a request edge, and time, do to a transfer.
+use Prim.Native.Nat.{ℕ, _+_, _*_, _%_}
+use mathlib.Core.Bool.{Bool, _||_, not}
+use lib.Dec.{ltb, eqb}
+use Rattle.counts.specs.declared.Micros.{Micros}
+use Rattle.counts.specs.Choice.{if_then_else_}
+use Rattle.handshake.specs.declared.Transfer.{Transfer}
+use Rattle.handshake.specs.declared.Edge.{Edge}
+use Rattle.handshake.specs.declared.Edge.the-variants.{Keep, Drop, Carry}
+use Rattle.handshake.specs.Transfer.{taking, responding, wordBits, patience, noTransfer, openB}
+
+-- one bit more, seventeen at most
+abbrev pub nextBit : ℕ → ℕ
+nextBit count = if ltb count wordBits then count + 1 else wordBits
+
+-- a register of seventeen bits, the data line taken at its low end
+abbrev pub takenBit : ℕ → ℕ → ℕ
+takenBit bits level = bits % 65_536 * 2 + level
+
+-- "the data line is taken .. and acknowledge rises"
+abbrev pub takenOf : ℕ → Transfer → Transfer
+takenOf level t = record {
+  waiting = record { 0 = 0 };
+  bits = takenBit (t .bits) level;
+  response = 0;
+  way = taking;
+  count = nextBit (t .count);
+  acknowledge = 1;
+}
+
+-- "or the next response bit is put out, and acknowledge rises"
+abbrev pub putOutOf : Transfer → Transfer
+putOutOf t = record {
+  waiting = record { 0 = 0 };
+  bits = 0;
+  response = t .response;
+  way = responding;
+  count = nextBit (t .count);
+  acknowledge = 1;
+}
+
+-- "On a rise of request": gated, either gate on; calm, no timer of the unit runs
+unfoldable pub riseOf : Bool → Bool → ℕ → Transfer → Edge
+riseOf gated calm level t =
+    if gated then Drop  -- "either gate on: bit 6, any open transfer dropped, no acknowledge"
+    else if not (openB t || calm) then Drop  -- "Else no transfer open and command complete false: bit 6, no acknowledge"
+    else if eqb (t .way) responding then Keep (putOutOf t)
+    else Keep (takenOf level t)
+
+abbrev pub loweredOf : Transfer → Transfer
+loweredOf t = record { waiting = record { 0 = 0 }; bits = t .bits; response = t .response; way = t .way; count = t .count; acknowledge = 0 }
+
+-- "On a fall with acknowledge up it falls; after the 17th bit in, the word is carried out ..; after the 17th bit out the transfer ends."
+unfoldable pub fallOf : Transfer → Edge
+fallOf t =
+    if not (eqb (t .acknowledge) 1) then Keep t
+    else if ltb (t .count) wordBits then Keep (loweredOf t)
+    else if eqb (t .way) taking then Carry (t .bits)
+    else Keep noTransfer
+
+abbrev pub agedBy : Micros → Transfer → Transfer
+agedBy us t = record {
+  waiting = record { 0 = t .waiting .0 + us .0 };
+  bits = t .bits;
+  response = t .response;
+  way = t .way;
+  count = t .count;
+  acknowledge = t .acknowledge;
+}
+
+-- "More than 10,000 µs since its last request edge (house): bit 6, dropped."
+unfoldable pub waitOf : Micros → Transfer → Edge
+waitOf us t =
+    if eqb (t .way) 0 then Keep t
+    else if ltb patience (t .waiting .0 + us .0) then Drop
+    else Keep (agedBy us t)

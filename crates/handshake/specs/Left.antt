@@ -1,0 +1,42 @@
+-- What the handshake leaves: the clauses on transfers of "A record is malformed when ..".
+use Prim.Native.Nat.{ℕ, _+_, _/_, _^_}
+use mathlib.Core.Bool.{Bool, false}
+use mathlib.Core.List.{[], _∷_}
+use lib.Dec.{ltb, leb, eqb}
+use Rattle.counts.specs.Choice.{if_then_else_}
+use Rattle.counts.specs.Tests.{allOf}
+use Rattle.handshake.specs.declared.Transfer.{Transfer}
+use Rattle.handshake.specs.Transfer.{taking, responding, wordBits, patience}
+
+-- "a drive with no open transfer has acknowledge up or any collected bit, response or waiting time other than 0"
+abbrev pub idleB : Transfer → Bool
+idleB t = allOf (eqb (t .waiting .0) 0 ∷ eqb (t .bits) 0 ∷ eqb (t .response) 0 ∷ eqb (t .count) 0 ∷ eqb (t .acknowledge) 0 ∷ [])
+
+-- "an open transfer's acknowledge or bit counts aren't what the handshake leaves at that request level":
+-- 1 to 16 bits taken at low, 1 to 17 at high, and none stands above their count
+unfoldable pub takingB : ℕ → Transfer → Bool
+takingB request t = allOf (
+    leb (t .count) wordBits ∷
+    leb (t .waiting .0) patience ∷
+    eqb (t .acknowledge) request ∷
+    leb 1 (t .count) ∷
+    leb (t .count) (16 + request) ∷
+    eqb (t .bits / 2 ^ t .count) 0 ∷
+    eqb (t .response) 0 ∷ [])
+
+-- 0 to 16 bits out at low, 1 to 17 at high; a response has seventeen bits
+abbrev pub respondingB : ℕ → Transfer → Bool
+respondingB request t = allOf (
+    leb (t .waiting .0) patience ∷
+    eqb (t .acknowledge) request ∷
+    leb request (t .count) ∷
+    leb (t .count) (16 + request) ∷
+    eqb (t .bits) 0 ∷
+    ltb (t .response) 131_072 ∷ [])
+
+unfoldable pub leftB : ℕ → Transfer → Bool
+leftB request t =
+    if eqb (t .way) 0 then idleB t
+    else if eqb (t .way) taking then takingB request t
+    else if eqb (t .way) responding then respondingB request t
+    else false

@@ -1,0 +1,244 @@
+// The serial handshake: what a request edge and time do to a unit's transfer. It knows nothing else of the unit.
+use counts::Micros;
+ghost use mathlib.Core.Path.{_≡_};
+ghost use Rattle.handshake.specs.Transfer.{noTransfer, respondingWith, openB, bitOut, statusLine};
+ghost use Rattle.handshake.specs.Edges.{takenBit, nextBit, takenOf, putOutOf, riseOf, loweredOf, fallOf, waitOf};
+ghost use Rattle.handshake.specs.Left.{idleB, takingB, respondingB, leftB};
+
+// way: 0 none, 1 taking bits, 2 responding. count: the bits taken, or put out. acknowledge: the line's level.
+#[repr(C)]
+pub struct Transfer {
+    pub waiting: Micros,
+    pub bits: u32,
+    pub response: u32,
+    pub way: u8,
+    pub count: u8,
+    pub acknowledge: u8,
+}
+
+// What an edge or a wait does: the transfer goes on, is dropped with bit 6, or has its word whole, to be carried out.
+pub enum Edge {
+    Keep(Transfer),
+    Drop,
+    Carry(u32),
+}
+
+impl Transfer {
+    pub const TAKING: u8 = 1;
+
+    pub const RESPONDING: u8 = 2;
+
+    // Sixteen bits and their parity.
+    pub const BITS: u8 = 17;
+
+    // The microseconds between one request edge and the next that are not too many.
+    pub const PATIENCE: u32 = 10_000;
+
+    pub fn none() -> Transfer
+        ensures { λ r. ⌜ r ≡ noTransfer ⌝ }
+    {
+        Transfer {
+            waiting: Micros(0),
+            bits: 0,
+            response: 0,
+            way: 0,
+            count: 0,
+            acknowledge: 0,
+        }
+    }
+
+    // A response, fixed, of which no bit is out yet.
+    pub fn responding(response: u32) -> Transfer
+        ensures { λ r. ⌜ r ≡ respondingWith response ⌝ }
+    {
+        Transfer {
+            waiting: Micros(0),
+            bits: 0,
+            response,
+            way: Transfer::RESPONDING,
+            count: 0,
+            acknowledge: 0,
+        }
+    }
+}
+
+pub fn is_open(t: Transfer) -> bool
+    ensures { λ r. ⌜ r ≡ openB t ⌝ }
+{
+    t.way != 0
+}
+
+// One more, up to seventeen.
+fn counted(count: u8) -> u8
+    ensures { λ r. ⌜ r ≡ nextBit count ⌝ }
+{
+    if count < Transfer::BITS {
+        return count + 1;
+    }
+    Transfer::BITS
+}
+
+// The word so far with one bit more, a register of seventeen bits.
+fn shifted(bits: u32, level: u8) -> u32
+    ensures { λ r. ⌜ r ≡ takenBit bits level ⌝ }
+{
+    bits % 65_536 * 2 + level as u32
+}
+
+fn taken(t: Transfer, level: u8) -> Transfer
+    ensures { λ r. ⌜ r ≡ takenOf level t ⌝ }
+{
+    Transfer {
+        waiting: Micros(0),
+        bits: shifted(t.bits, level),
+        response: 0,
+        way: Transfer::TAKING,
+        count: counted(t.count),
+        acknowledge: 1,
+    }
+}
+
+fn put_out(t: Transfer) -> Transfer
+    ensures { λ r. ⌜ r ≡ putOutOf t ⌝ }
+{
+    Transfer {
+        waiting: Micros(0),
+        bits: 0,
+        response: t.response,
+        way: Transfer::RESPONDING,
+        count: counted(t.count),
+        acknowledge: 1,
+    }
+}
+
+// Request rises. gated: either gate is on. calm: the unit's timers are 0. level: the command data line's.
+pub fn rise(t: Transfer, gated: bool, calm: bool, level: u8) -> Edge
+    ensures { λ r. ⌜ r ≡ riseOf gated calm level t ⌝ }
+{
+    if gated {
+        return Edge::Drop;
+    }
+    if t.way == 0 {
+        if !calm {
+            return Edge::Drop;
+        }
+        return Edge::Keep(taken(t, level));
+    }
+    if t.way == Transfer::RESPONDING {
+        return Edge::Keep(put_out(t));
+    }
+    Edge::Keep(taken(t, level))
+}
+
+fn lowered(t: Transfer) -> Transfer
+    ensures { λ r. ⌜ r ≡ loweredOf t ⌝ }
+{
+    let mut e = t;
+    let w = Micros(0);
+    e.waiting = w;
+    e.acknowledge = 0;
+    e
+}
+
+// Request falls.
+pub fn fall(t: Transfer) -> Edge
+    ensures { λ r. ⌜ r ≡ fallOf t ⌝ }
+{
+    if t.acknowledge != 1 {
+        return Edge::Keep(t);
+    }
+    if t.count < Transfer::BITS {
+        return Edge::Keep(lowered(t));
+    }
+    if t.way == Transfer::TAKING {
+        return Edge::Carry(t.bits);
+    }
+    Edge::Keep(Transfer::none())
+}
+
+// Microseconds pass.
+pub fn wait(t: Transfer, us: Micros) -> Edge
+    ensures { λ r. ⌜ r ≡ waitOf us t ⌝ }
+{
+    if t.way == 0 {
+        return Edge::Keep(t);
+    }
+    let w = t.waiting.0 as u64 + us.0 as u64;
+    if w > Transfer::PATIENCE as u64 {
+        return Edge::Drop;
+    }
+    let mut e = t;
+    let n = Micros(w as u32);
+    e.waiting = n;
+    Edge::Keep(e)
+}
+
+// The response bit that stands out after count bits, the first highest.
+fn bit_out(response: u32, count: u8) -> u8
+    ensures { λ r. ⌜ r ≡ bitOut response count ⌝ }
+{
+    if count > 17 {
+        return 0;
+    }
+    ((response >> (17 - count) as u32) % 2) as u8
+}
+
+// The configuration/status line.
+pub fn status_line(t: Transfer) -> u8
+    ensures { λ r. ⌜ r ≡ statusLine t ⌝ }
+{
+    if t.way != Transfer::RESPONDING {
+        return 0;
+    }
+    if t.acknowledge != 1 {
+        return 0;
+    }
+    bit_out(t.response, t.count)
+}
+
+fn idle(t: Transfer) -> bool
+    ensures { λ r. ⌜ r ≡ idleB t ⌝ }
+{
+    (t.waiting.0 == 0) & (t.bits == 0) & (t.response == 0) & (t.count == 0) & (t.acknowledge == 0)
+}
+
+fn taking(t: Transfer, request: u8) -> bool
+    ensures { λ r. ⌜ r ≡ takingB request t ⌝ }
+{
+    if t.count > Transfer::BITS {
+        return false;
+    }
+    (t.waiting.0 <= Transfer::PATIENCE)
+        & (t.acknowledge == request)
+        & (1 <= t.count)
+        & (t.count as u16 <= 16 + request as u16)
+        & (t.bits >> t.count as u32 == 0)
+        & (t.response == 0)
+}
+
+fn responding(t: Transfer, request: u8) -> bool
+    ensures { λ r. ⌜ r ≡ respondingB request t ⌝ }
+{
+    (t.waiting.0 <= Transfer::PATIENCE)
+        & (t.acknowledge == request)
+        & (request <= t.count)
+        & (t.count as u16 <= 16 + request as u16)
+        & (t.bits == 0)
+        & (t.response < 131_072)
+}
+
+// Whether the handshake could have left this transfer at that request level.
+pub fn could_leave(t: Transfer, request: u8) -> bool
+    ensures { λ r. ⌜ r ≡ leftB request t ⌝ }
+{
+    if t.way == 0 {
+        return idle(t);
+    }
+    if t.way == Transfer::TAKING {
+        return taking(t, request);
+    }
+    if t.way == Transfer::RESPONDING {
+        return responding(t, request);
+    }
+    false
+}
