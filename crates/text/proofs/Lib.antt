@@ -1,0 +1,5 @@
+pub mod Choice
+pub mod Reading
+pub mod Stopping
+pub mod Digits
+pub mod Storing
