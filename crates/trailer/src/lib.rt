@@ -242,7 +242,8 @@ fn general_ok(w: u16, switch: u32) -> bool
         & (w / 4 % 2 + w / 2 % 2 + w / 1 % 2 == 1)
 }
 
-fn sector_ok(soft: bool, size: u16) -> bool
+// Whether a sector size may stand.
+pub fn sector_ok(soft: bool, size: u16) -> bool
     ensures { λ r. ⌜ r ≡ sectorOk soft size ⌝ }
 {
     if soft {
