@@ -15,3 +15,8 @@ cellOf track length position = track * length + position
 
 unfoldable pub placeOf : Profile → Body → Position → ℕ
 placeOf p b position = cellOf (b .arm .cylinder .0 * p .shape .heads .0 + b .head .0) (p .shape .track .0) (position .0)
+
+-- whatever the fields say, the place is below 2 ^ 40
+pub record Spot (p : Profile) (b : Body) (position : Position) (r : ℕ) : Type 0 where
+  pub is : r ≡ placeOf p b position
+  pub most : r < 1_099_511_627_776

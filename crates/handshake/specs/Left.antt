@@ -1,6 +1,6 @@
 -- What the handshake leaves: the clauses on transfers of "A record is malformed when ..".
 use Prim.Native.Nat.{ℕ, _+_, _/_, _^_}
-use mathlib.Core.Bool.{Bool, false}
+use mathlib.Core.Bool.{Bool, false, _&&_}
 use mathlib.Core.List.{[], _∷_}
 use lib.Dec.{ltb, leb, eqb}
 use Rattle.counts.specs.Choice.{if_then_else_}
@@ -11,6 +11,10 @@ use Rattle.handshake.specs.Transfer.{taking, responding, wordBits, patie
 -- "a drive with no open transfer has acknowledge up or any collected bit, response or waiting time other than 0"
 abbrev pub idleB : Transfer → Bool
 idleB t = allOf (eqb (t .waiting .0) 0 ∷ eqb (t .bits) 0 ∷ eqb (t .response) 0 ∷ eqb (t .count) 0 ∷ eqb (t .acknowledge) 0 ∷ [])
+
+-- no transfer at all
+abbrev pub noneB : Transfer → Bool
+noneB t = eqb (t .way) 0 && idleB t
 
 -- "an open transfer's acknowledge or bit counts aren't what the handshake leaves at that request level":
 -- 1 to 16 bits taken at low, 1 to 17 at high, and none stands above their count

@@ -3,7 +3,7 @@ use counts::Micros;
 ghost use mathlib.Core.Path.{_≡_};
 ghost use Rattle.handshake.specs.Transfer.{noTransfer, respondingWith, openB, bitOut, statusLine};
 ghost use Rattle.handshake.specs.Edges.{takenBit, nextBit, takenOf, putOutOf, riseOf, loweredOf, fallOf, waitOf};
-ghost use Rattle.handshake.specs.Left.{idleB, takingB, respondingB, leftB};
+ghost use Rattle.handshake.specs.Left.{idleB, noneB, takingB, respondingB, leftB};
 
 // way: 0 none, 1 taking bits, 2 responding. count: the bits taken, or put out. acknowledge: the line's level.
 #[repr(C)]
@@ -200,6 +200,13 @@ fn idle(t: Transfer) -> bool
     ensures { λ r. ⌜ r ≡ idleB t ⌝ }
 {
     (t.waiting.0 == 0) & (t.bits == 0) & (t.response == 0) & (t.count == 0) & (t.acknowledge == 0)
+}
+
+// No transfer, and nothing of one left.
+pub fn is_idle(t: Transfer) -> bool
+    ensures { λ r. ⌜ r ≡ noneB t ⌝ }
+{
+    (t.way == 0) & idle(t)
 }
 
 fn taking(t: Transfer, request: u8) -> bool

@@ -1,4 +1,4 @@
--- `drive::cell::place` meets its contract: each return rewrites with the tests that led there.
+-- `drive::cell::place` meets its contract: the track's number, then the cell in it.
 use Rattle.drive.specs.Cell.{placeOf}
 use borrow.Author.Needs.{needs}
 use Rattle.drive.proofs.cell.place.Statement.{statement}
@@ -12,7 +12,7 @@ cell-requires c κs = search needs
 
 returns : tie.Need-returns
 unfolding placeOf
-returns c = simp (c .before .track .ensures .is, c .cell .ensures)
+returns c = record { is = simp (c .cell .ensures .0, c .before .track .ensures .is); most = c .cell .ensures .1 }
 
 pub place-spec : {M : Type 1} → statement M
 place-spec = tie.close (tie.spec track-requires cell-requires returns)
