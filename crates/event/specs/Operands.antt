@@ -1,0 +1,41 @@
+-- The ranges of the operands. Document 01, Events, the columns a and b.
+use Prim.Native.Nat.{ℕ}
+use mathlib.Core.Bool.{Bool, _&&_, not}
+use lib.Dec.{leb, eqb}
+use Rattle.counts.specs.Tests.{within}
+
+-- "0..7 (0 = none)"
+abbrev pub isSelectCode : ℕ → Bool
+isSelectCode a = leb a 7
+
+-- "head lines | 0..15"
+abbrev pub isHead : ℕ → Bool
+isHead a = leb a 15
+
+-- "0/1"
+abbrev pub isLevel : ℕ → Bool
+isLevel a = leb a 1
+
+-- "microseconds pass | 0..65,535"
+abbrev pub isSpan : ℕ → Bool
+isSpan a = leb a 65535
+
+-- "position in track 0..65,535"
+abbrev pub isPosition : ℕ → Bool
+isPosition a = leb a 65535
+
+-- "byte"
+abbrev pub isByte : ℕ → Bool
+isByte b = leb b 255
+
+-- "slot 1..7"
+abbrev pub isSlot : ℕ → Bool
+isSlot a = within 1 7 a
+
+-- "1 write fault, 2 seek error, 3 medium changed"
+abbrev pub isCondition : ℕ → Bool
+isCondition b = within 1 3 b
+
+-- "b is 0 for kinds 0 to 6": whether another stands there
+abbrev pub strayB : ℕ → ℕ → Bool
+strayB kind b = leb kind 6 && not (eqb b 0)
