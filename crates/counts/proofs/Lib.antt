@@ -1,2 +1,5 @@
+pub mod Choice
 pub mod Tests
+pub mod First
 pub mod Bytes
+pub mod Ones

@@ -31,3 +31,15 @@ pub within-both : (least most x : ℕ) → within least most x ≡ true → (lea
 within-both least most x h =
     let e = both (leb least x) (leb x most) h in
     (leb-true least x (e .0), leb-true x most (e .1))
+
+-- and the other way
+pub join : (a b : Bool) → a ≡ true → b ≡ true → (a && b) ≡ true
+join a b ha hb = rw (ha, hb)
+
+rest-all : (a : Bool) (rest : List Bool) → a ≡ true → Each rest → allFrom a rest ≡ true
+rest-all a [] ha h = ha
+rest-all a (b ∷ rest) ha h = rest-all (a && b) rest (join a b ha (h .0)) (h .1)
+
+pub all : (l : List Bool) → Each l → allOf l ≡ true
+all [] h = refl
+all (b ∷ rest) h = rest-all b rest (h .0) (h .1)

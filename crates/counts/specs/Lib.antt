@@ -1,3 +1,5 @@
 pub mod Choice
 pub mod Tests
 pub mod Bytes
+pub mod First
+pub mod Slots

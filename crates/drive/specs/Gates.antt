@@ -4,7 +4,7 @@ use mathlib.Core.Bool.{Bool, not}
 use lib.Dec.{ltb, eqb}
 use Rattle.counts.specs.Choice.{if_then_else_}
 use Rattle.counts.specs.Tests.{allOf}
-use mathlib.Core.List.{[], _∷_}
+use mathlib.Core.List.{List, [], _∷_}
 use Rattle.trailer.specs.declared.Profile.{Profile}
 use Rattle.drive.specs.declared.Body.{Body}
 use Rattle.drive.specs.declared.State.{State}
@@ -15,12 +15,15 @@ use Rattle.drive.specs.Faults.{latchOf}
 use Rattle.drive.specs.Status.{attentionB, readyB, completeB}
 
 -- none of "Not ready, not command complete, position lost, head not present"
-unfoldable pub usableB : Profile → State → Bool
-usableB p s = allOf (
+abbrev pub usableTests : Profile → State → List Bool
+usableTests p s =
     readyB (s .body) ∷
     completeB s ∷
     eqb (s .body .arm .lost) 0 ∷
-    ltb (s .body .head .0) (p .shape .heads .0) ∷ [])
+    ltb (s .body .head .0) (p .shape .heads .0) ∷ []
+
+unfoldable pub usableB : Profile → State → Bool
+usableB p s = allOf (usableTests p s)
 
 -- a bit of a value latched in a body, the transfer as it is
 abbrev pub faultedBy : ℕ → Body → State → Ruled

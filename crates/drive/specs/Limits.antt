@@ -1,7 +1,7 @@
 -- "Limits: .." on one drive's fields, with what flags and codes there are.
 use Prim.Native.Nat.{ℕ}
 use mathlib.Core.Bool.{Bool, _||_, not}
-use mathlib.Core.List.{[], _∷_}
+use mathlib.Core.List.{List, [], _∷_}
 use lib.Dec.{ltb, leb, eqb}
 use Rattle.counts.specs.Bytes.{bit}
 use Rattle.counts.specs.Tests.{allOf}
@@ -15,23 +15,39 @@ use Rattle.drive.specs.declared.Body.{Body}
 use Rattle.drive.specs.State.{starting, up}
 
 -- "cylinder below cylinders, offset −1 to 1"
+abbrev pub armTests : Profile → Arm → List Bool
+armTests p a =
+    ltb (a .cylinder .0) (p .shape .cylinders .0) ∷ leb (a .offset) 2 ∷ leb (a .lost) 1 ∷ []
+
 abbrev pub armB : Profile → Arm → Bool
-armB p a = allOf (ltb (a .cylinder .0) (p .shape .cylinders .0) ∷ leb (a .offset) 2 ∷ leb (a .lost) 1 ∷ [])
+armB p a = allOf (armTests p a)
 
 -- "busy ≤ 30,000,000, head timer ≤ 60,000"
+abbrev pub timerTests : Timers → List Bool
+timerTests t =
+    leb (t .busy .0) 30_000_000 ∷ leb (t .head .0) 60_000 ∷ []
+
 abbrev pub timersB : Timers → Bool
-timersB t = allOf (leb (t .busy .0) 30_000_000 ∷ leb (t .head .0) 60_000 ∷ [])
+timersB t = allOf (timerTests t)
 
 -- "no latched bit but those listed": 8, 7, 6, 5, 4, 3, 1, 0
+abbrev pub latchedTests : Latched → List Bool
+latchedTests l =
+    ltb (l .0) 512 ∷ eqb (bit (l .0) 2) 0 ∷ []
+
 abbrev pub latchedB : Latched → Bool
-latchedB l = allOf (ltb (l .0) 512 ∷ eqb (bit (l .0) 2) 0 ∷ [])
+latchedB l = allOf (latchedTests l)
 
 -- "a starting motor has busy 0"
-abbrev pub motorB : ℕ → ℕ → Bool
-motorB motor busy = allOf (leb motor up ∷ (not (eqb motor starting) || not (eqb busy 0)) ∷ [])
+abbrev pub motorTests : ℕ → ℕ → List Bool
+motorTests motor busy =
+    leb motor up ∷ (not (eqb motor starting) || not (eqb busy 0)) ∷ []
 
-unfoldable pub limitsB : Profile → Body → Bool
-limitsB p b = allOf (
+abbrev pub motorB : ℕ → ℕ → Bool
+motorB motor busy = allOf (motorTests motor busy)
+
+abbrev pub limitTests : Profile → Body → List Bool
+limitTests p b =
     armB p (b .arm) ∷
     timersB (b .timers) ∷
     latchedB (b .latched) ∷
@@ -39,4 +55,7 @@ limitsB p b = allOf (
     leb (b .head .0) 15 ∷
     motorB (b .motor) (b .timers .busy .0) ∷
     leb (b .reading) 1 ∷
-    leb (b .writing) 1 ∷ [])
+    leb (b .writing) 1 ∷ []
+
+unfoldable pub limitsB : Profile → Body → Bool
+limitsB p b = allOf (limitTests p b)

@@ -1,0 +1,91 @@
+-- A body's limits, part by part, and how setting busy and latching keep them.
+use mathlib.Core.Path.{_≡_, refl, ap, ap₂, _∙_}
+use mathlib.Core.Bool.{Bool, true, false, _&&_}
+use mathlib.Core.List.{List, [], _∷_}
+use Prim.Native.Nat.{ℕ, _/_, _%_, _≤_, _<_}
+use lib.Bits.{bitOr, or-lt, or-shr, or-mod}
+use lib.Dec.{leb, eqb}
+use borrow.Author.Tests.{ltb-true, eqb-true, le-leb, lt-ltb, eq-eqb}
+use Rattle.counts.specs.declared.Micros.{Micros}
+use Rattle.counts.specs.Bytes.{bit}
+use Rattle.counts.specs.Choice.{if_then_else_}
+use Rattle.counts.proofs.Tests.{both, join, each, all}
+use Rattle.trailer.specs.declared.Profile.{Profile}
+use Rattle.trailer.specs.General.{soft}
+use Rattle.trailer.specs.Valid.{sectorOk}
+use Rattle.drive.specs.declared.Arm.{Arm}
+use Rattle.drive.specs.declared.Body.{Body}
+use Rattle.drive.specs.State.{starting, up, with-arm, with-motor}
+use Rattle.drive.specs.Faults.{latchOf}
+use Rattle.drive.specs.Limits.{armB, timersB, latchedB, motorB, limitsB}
+use Rattle.acts.specs.Acts.{busyFor}
+
+pub record Parts (p : Profile) (b : Body) : Type 0 where
+  pub arm : armB p (b .arm) ≡ true
+  pub timers : timersB (b .timers) ≡ true
+  pub latched : latchedB (b .latched) ≡ true
+  pub sector : sectorOk (soft (p .general)) (b .sector .0) ≡ true
+  pub head : leb (b .head .0) 15 ≡ true
+  pub motor : motorB (b .motor) (b .timers .busy .0) ≡ true
+  pub reading : leb (b .reading) 1 ≡ true
+  pub writing : leb (b .writing) 1 ≡ true
+
+abbrev tests : Profile → Body → List Bool
+tests p b =
+    armB p (b .arm) ∷
+    timersB (b .timers) ∷
+    latchedB (b .latched) ∷
+    sectorOk (soft (p .general)) (b .sector .0) ∷
+    leb (b .head .0) 15 ∷
+    motorB (b .motor) (b .timers .busy .0) ∷
+    leb (b .reading) 1 ∷
+    leb (b .writing) 1 ∷ []
+
+pub parts : (p : Profile) (b : Body) → limitsB p b ≡ true → Parts p b
+unfolding limitsB
+parts p b h =
+    let e = each (tests p b) h in
+    let t = e .1 .1 .1 .1 in
+    record {
+      arm = e .0;
+      timers = e .1 .0;
+      latched = e .1 .1 .0;
+      sector = e .1 .1 .1 .0;
+      head = t .0;
+      motor = t .1 .0;
+      reading = t .1 .1 .0;
+      writing = t .1 .1 .1 .0;
+    }
+
+pub whole : (p : Profile) (b : Body) → Parts p b → limitsB p b ≡ true
+unfolding limitsB
+whole p b q =
+    all (tests p b)
+    (q .arm, (q .timers, (q .latched, (q .sector, (q .head, (q .motor, (q .reading, (q .writing, tt))))))))
+
+-- a motor that is starting has busy time left, whatever is set
+motor-keeps : (m t : ℕ) (s z : Bool) → eqb m starting ≡ s → eqb t 0 ≡ z → leb m up ≡ true → motorB (if s && z then up else m) t ≡ true
+motor-keeps m t true true s z h = refl
+motor-keeps m t true false s z h = rw (s, z, h)
+motor-keeps m t false z s e h = rw (s, h)
+
+-- busy is set within its limit, the arm and the motor within theirs
+pub busy-keeps : (p : Profile) (b : Body) (arm : Arm) (m : ℕ) (t : Micros) → Parts p b → armB p arm ≡ true → leb m up ≡ true → t .0 ≤ 30_000_000
+    → Parts p (busyFor t (with-motor m (with-arm arm b)))
+unfolding busyFor
+busy-keeps p b arm m t q a u h =
+    let timers = join _ _ (le-leb (t .0) 30_000_000 h) (both (leb (b .timers .busy .0) 30_000_000) (leb (b .timers .head .0) 60_000) (q .timers) .1) in
+    let motor = motor-keeps m (t .0) (eqb m starting) (eqb (t .0) 0) refl refl u in
+    search (timers, motor)
+
+-- bits that may be latched, added to such bits
+or-latched : (l value : ℕ) → l < 512 → bit l 2 ≡ 0 → value < 512 → bit value 2 ≡ 0 → latchedB (record { 0 = bitOr l value }) ≡ true
+or-latched l value small clear vsmall vclear =
+    join _ _ (lt-ltb (bitOr l value) 512 (or-lt 9 l value small vsmall)) (eq-eqb (bit (bitOr l value) 2) 0
+    (ap (λ (n : ℕ). n % 2) (or-shr l value 2) ∙ or-mod (l / 4) (value / 4) 1 ∙ ap₂ bitOr clear vclear))
+
+pub latch-keeps : (p : Profile) (b : Body) (value : ℕ) → value < 512 → bit value 2 ≡ 0 → Parts p b → Parts p (latchOf value b)
+unfolding latchOf
+latch-keeps p b value small clear q =
+    let l = both _ _ (q .latched) in
+    search (or-latched (b .latched .0) value (ltb-true _ _ (l .0)) (eqb-true _ _ (l .1)) small clear)

@@ -1,0 +1,15 @@
+-- `acts::busy_for` meets its contract: each return rewrites with the tests that led there.
+use Rattle.acts.specs.Acts.{busyFor}
+use borrow.Author.Needs.{needs}
+use Rattle.acts.proofs.busy_for.Statement.{statement}
+use Rattle.acts.proofs.busy_for.Tie as tie
+
+motor-for-requires : tie.Need-motor-for-requires
+motor-for-requires c κs = search needs
+
+returns : tie.Need-returns
+unfolding busyFor
+returns c = simp (c .motor-for .ensures)
+
+pub busy-for-spec : {M : Type 1} → statement M
+busy-for-spec = tie.close (tie.spec motor-for-requires returns)

@@ -1,0 +1,70 @@
+-- Which words are valid, and what a word comes to.
+use Prim.Native.Nat.{ℕ, _%_, _^_}
+use mathlib.Core.Bool.{Bool, true, _&&_, _||_, not}
+use lib.Dec.{ltb, leb, eqb}
+use Rattle.counts.specs.Choice.{if_then_else_}
+use Rattle.counts.specs.Tests.{within}
+use Rattle.trailer.specs.declared.Profile.{Profile}
+use Rattle.trailer.specs.General.{offsetOption, motorOption, soft}
+use Rattle.drive.specs.declared.Body.{Body}
+use Rattle.drive.specs.Status.{readyB}
+use Rattle.command.specs.declared.table.Row.{Row}
+use Rattle.command.specs.declared.Effect.{Effect}
+use Rattle.command.specs.declared.Effect.the-variants.{Fails, Status, Configuration, Does}
+use Rattle.acts.specs.declared.Act.the-variants.{Seek, Recalibrate, Clear, Stop, Start, Offset, Diagnose, Sector}
+use Rattle.command.specs.Word.{wordOf, codeOf, modifierOf, numberOf, oddB}
+use Rattle.command.specs.Table.{motor, offsets, hard, ready, position, seek, recalibrate, status, configuration, clear, stop, start, restore, plus, minus, diagnose, sector, foundOf}
+
+-- "with motor option", "with offset option", "hard sectored"
+unfoldable pub optionB : Profile → ℕ → Bool
+optionB p option =
+    if eqb option motor then motorOption (p .general)
+    else if eqb option offsets then offsetOption (p .general)
+    else if eqb option hard then not (soft (p .general))
+    else true
+
+-- "162..4,095"
+abbrev pub sizeB : ℕ → Bool
+sizeB size = within 162 4095 size
+
+unfoldable pub operandB : Profile → ℕ → ℕ → Bool
+operandB p act w =
+    if eqb act seek then ltb (numberOf w) (p .shape .cylinders .0)  -- "cylinder < cylinders"
+    else if eqb act sector then sizeB (numberOf w)
+    else eqb (w % 256) 0  -- "so are non-zero bits 7..0 outside 0 and 9"
+
+abbrev pub validB : Profile → Row → ℕ → Bool
+validB p r w = optionB p (r .3) && operandB p (r .5) w
+
+unfoldable pub blockedB : Body → ℕ → Bool
+blockedB b asks =
+    (leb ready asks && not (readyB b))  -- "seek, recalibrate or offset when not ready"
+    || (leb position asks && not (eqb (b .arm .lost) 0))  -- "seek or offset with position lost"
+
+-- the column "effect", by its name; an offset's code is that of the arm
+unfoldable pub actOf : ℕ → ℕ → Effect
+actOf act w =
+    if eqb act seek then Does (Seek (record { 0 = numberOf w }))
+    else if eqb act recalibrate then Does Recalibrate
+    else if eqb act status then Status
+    else if eqb act configuration then Configuration (modifierOf w)
+    else if eqb act clear then Does Clear
+    else if eqb act stop then Does Stop
+    else if eqb act start then Does Start
+    else if eqb act restore then Does (Offset 0)
+    else if eqb act plus then Does (Offset 1)
+    else if eqb act minus then Does (Offset 2)
+    else if eqb act diagnose then Does Diagnose
+    else if eqb act sector then Does (Sector (record { 0 = numberOf w }))
+    else Fails (2 ^ 5)  -- the invalid row
+
+-- "Order for a whole word"
+unfoldable pub orderOf : Profile → Body → ℕ → Row → ℕ → Effect
+orderOf p b n r w =
+    if not (oddB n) then Fails (2 ^ 7)  -- "even parity, bit 7"
+    else if not (validB p r w) then Fails (2 ^ 5)  -- "invalid, bit 5"
+    else if blockedB b (r .4) then Fails (2 ^ 4)  -- "bit 4"
+    else actOf (r .5) w  -- "else carried out"
+
+unfoldable pub effectOf : Profile → Body → ℕ → Effect
+effectOf p b n = orderOf p b n (foundOf (codeOf (wordOf n)) (modifierOf (wordOf n))) (wordOf n)

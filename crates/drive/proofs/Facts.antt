@@ -1,0 +1,57 @@
+-- What the tests on a drive give as facts.
+use mathlib.Core.Path.{_≡_}
+use mathlib.Core.Bool.{Bool, true, false, _&&_, _||_, not}
+use Prim.Native.Nat.{ℕ, _≤_, _<_}
+use borrow.Author.Tests.{leb-true, ltb-true, eqb-true}
+use Rattle.counts.proofs.Tests.{each}
+use Rattle.trailer.specs.declared.Profile.{Profile}
+use Rattle.trailer.specs.General.{soft}
+use Rattle.trailer.specs.Valid.{sectorOk}
+use Rattle.drive.specs.declared.Body.{Body}
+use Rattle.drive.specs.declared.State.{State}
+use Rattle.drive.specs.Status.{readyB, completeB}
+use Rattle.drive.specs.Gates.{usableTests, usableB}
+use Rattle.drive.specs.Limits.{armTests, armB, timersB, latchedB, motorB, limitTests, limitsB}
+
+-- a drive whose fields keep their limits
+pub record Limits (p : Profile) (b : Body) : Type 0 where
+  pub arm : armB p (b .arm) ≡ true
+  pub timers : timersB (b .timers) ≡ true
+  pub latched : latchedB (b .latched) ≡ true
+  pub sector : sectorOk (soft (p .general)) (b .sector .0) ≡ true
+  pub head : b .head .0 ≤ 15
+  pub motor : motorB (b .motor) (b .timers .busy .0) ≡ true
+  pub reading : b .reading ≤ 1
+  pub writing : b .writing ≤ 1
+
+pub limits : (p : Profile) (b : Body) → limitsB p b ≡ true → Limits p b
+unfolding limitsB
+limits p b h =
+    let e = each (limitTests p b) h in
+    record {
+      arm = e .0;
+      timers = e .1 .0;
+      latched = e .1 .1 .0;
+      sector = e .1 .1 .1 .0;
+      head = leb-true _ _ (e .1 .1 .1 .1 .0);
+      motor = e .1 .1 .1 .1 .1 .0;
+      reading = leb-true _ _ (e .1 .1 .1 .1 .1 .1 .0);
+      writing = leb-true _ _ (e .1 .1 .1 .1 .1 .1 .1 .0);
+    }
+
+-- the heads stand on a cylinder that is there
+pub on-cylinder : (p : Profile) (b : Body) → limitsB p b ≡ true → b .arm .cylinder .0 < p .shape .cylinders .0
+on-cylinder p b h = ltb-true _ _ (each (armTests p (b .arm)) (limits p b h .arm) .0)
+
+-- a drive that may read or write
+pub record Usable (p : Profile) (s : State) : Type 0 where
+  pub ready : readyB (s .body) ≡ true
+  pub complete : completeB s ≡ true
+  pub known : s .body .arm .lost ≡ 0
+  pub present : s .body .head .0 < p .shape .heads .0
+
+pub usable : (p : Profile) (s : State) → usableB p s ≡ true → Usable p s
+unfolding usableB
+usable p s h =
+    let e = each (usableTests p s) h in
+    record { ready = e .0; complete = e .1 .0; known = eqb-true _ _ (e .1 .1 .0); present = ltb-true _ _ (e .1 .1 .1 .0) }

@@ -1,0 +1,18 @@
+-- `word::carry` meets its contract: each return rewrites with the tests that led there.
+use Rattle.word.specs.Rules.{carryOf}
+use borrow.Author.Needs.{needs}
+use Rattle.word.proofs.carry.Statement.{statement}
+use Rattle.word.proofs.carry.Tie as tie
+
+effect-requires : tie.Need-effect-requires
+effect-requires c κs = search needs
+
+done-requires : tie.Need-done-requires
+done-requires c κs = search needs
+
+returns : tie.Need-returns
+unfolding carryOf
+returns c = simp (c .before .effect .ensures, c .done .ensures)
+
+pub carry-spec : {M : Type 1} → statement M
+carry-spec = tie.close (tie.spec effect-requires done-requires returns)

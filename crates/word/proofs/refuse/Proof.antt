@@ -1,0 +1,13 @@
+-- `word::refuse` meets its contract: each return rewrites with the tests that led there.
+use borrow.Author.Needs.{needs}
+use Rattle.word.proofs.refuse.Statement.{statement}
+use Rattle.word.proofs.refuse.Tie as tie
+
+latch-requires : tie.Need-latch-requires
+latch-requires c κs = search needs
+
+returns : tie.Need-returns
+returns c = simp (c .latch .ensures)
+
+pub refuse-spec : {M : Type 1} → statement M
+refuse-spec = tie.close (tie.spec latch-requires returns)

@@ -1,0 +1,13 @@
+-- `word::refuses` meets its contract: each return rewrites with the tests that led there.
+use borrow.Author.Needs.{needs}
+use Rattle.word.proofs.refuses.Statement.{statement}
+use Rattle.word.proofs.refuses.Tie as tie
+
+complete-requires : tie.Need-complete-requires
+complete-requires c κs = search needs
+
+returns : tie.Need-returns
+returns c = simp (← c .complete .ensures)
+
+pub refuses-spec : {M : Type 1} → statement M
+refuses-spec = tie.close (tie.spec complete-requires returns)

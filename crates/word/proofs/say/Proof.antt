@@ -1,0 +1,13 @@
+-- `word::say` meets its contract: each return rewrites with the tests that led there.
+use borrow.Author.Needs.{needs}
+use Rattle.word.proofs.say.Statement.{statement}
+use Rattle.word.proofs.say.Tie as tie
+
+with-parity-requires : tie.Need-with-parity-requires
+with-parity-requires c κs = search needs
+
+returns : tie.Need-returns
+returns c = simp (c .with-parity .ensures)
+
+pub say-spec : {M : Type 1} → statement M
+say-spec = tie.close (tie.spec with-parity-requires returns)
