@@ -2,3 +2,4 @@ pub mod Slots
 pub mod Places
 pub mod Facts
 pub mod Touching
+pub mod Written

@@ -1,7 +1,7 @@
 -- `chain::decide::data_cell` meets its contract: each return rewrites with the tests that led there.
 use Rattle.chain.specs.Decide.{cellOf}
 use borrow.Author.Needs.{needs}
-use borrow.Author.Tests.{lt-ltb, le-ltb, le-leb, lt-leb, eq-eqb, ne-eqb, not-true, not-false}
+use borrow.Author.Tests.{le-leb, lt-leb, eq-eqb, ne-eqb, not-true, not-false}
 use Rattle.chain.proofs.decide.data_cell.Statement.{statement}
 use Rattle.chain.proofs.decide.data_cell.Tie as tie
 
@@ -20,12 +20,7 @@ unfolding cellOf
 returns-2 c =
     let b4 = c .before .before .before .before in
     let b6 = b4 .before .before in
-    simp (
-      not-false (b6 .args .d .on) (b4 .if1 .left),
-      le-ltb _ _ (c .before .if2 .taken),
-      le-leb _ _ (c .before .if2 .taken),
-      c .say2 .ensures,
-    )
+    simp (not-false (b6 .args .d .on) (b4 .if1 .left), le-leb _ _ (c .before .if2 .taken), c .say2 .ensures)
 
 place-of-requires : tie.Need-place-of-requires
 place-of-requires c κs = search needs
@@ -36,13 +31,7 @@ returns-3 c =
     let b3 = c .before .before .before in
     let b6 = b3 .before .before .before in
     let b8 = b6 .before .before in
-    simp (
-      not-false (b8 .args .d .on) (b6 .if1 .left),
-      lt-leb _ _ (b3 .if2 .left),
-      lt-ltb _ _ (b3 .if2 .left),
-      eq-eqb _ _ (c .before .if3 .taken),
-      c .place-of .ensures,
-    )
+    simp (not-false (b8 .args .d .on) (b6 .if1 .left), lt-leb _ _ (b3 .if2 .left), eq-eqb _ _ (c .before .if3 .taken), c .place-of .ensures)
 
 place-of-requires-2 : tie.Need-place-of-requires-2
 place-of-requires-2 c κs = search needs
@@ -54,14 +43,7 @@ returns-4 c =
     let b5 = b3 .before .before in
     let b8 = b5 .before .before .before in
     let b10 = b8 .before .before in
-    simp (
-      not-false (b10 .args .d .on) (b8 .if1 .left),
-      lt-leb _ _ (b5 .if2 .left),
-      lt-ltb _ _ (b5 .if2 .left),
-      ne-eqb _ _ (b3 .if3 .left),
-      eq-eqb _ _ (c .before .if4 .taken),
-      c .place-of2 .ensures,
-    )
+    simp (not-false (b10 .args .d .on) (b8 .if1 .left), lt-leb _ _ (b5 .if2 .left), ne-eqb _ _ (b3 .if3 .left), eq-eqb _ _ (c .before .if4 .taken), c .place-of2 .ensures)
 
 say-requires-3 : tie.Need-say-requires-3
 say-requires-3 c κs = search needs
@@ -73,14 +55,7 @@ returns-5 c =
     let b5 = b3 .before .before in
     let b8 = b5 .before .before .before in
     let b10 = b8 .before .before in
-    simp (
-      not-false (b10 .args .d .on) (b8 .if1 .left),
-      lt-leb _ _ (b5 .if2 .left),
-      lt-ltb _ _ (b5 .if2 .left),
-      ne-eqb _ _ (b3 .if3 .left),
-      ne-eqb _ _ (c .before .if4 .left),
-      c .say3 .ensures,
-    )
+    simp (not-false (b10 .args .d .on) (b8 .if1 .left), lt-leb _ _ (b5 .if2 .left), ne-eqb _ _ (b3 .if3 .left), ne-eqb _ _ (c .before .if4 .left), c .say3 .ensures)
 
 pub data-cell-spec : {M : Type 1} → statement M
 data-cell-spec =

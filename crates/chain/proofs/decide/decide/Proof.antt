@@ -95,7 +95,7 @@ returns-8 c = simp (c .before .before .before .before .before .look .ensures, c 
 
 returns-9 : tie.Need-returns-9
 unfolding decideOf
-returns-9 c = simp (c .before .before .before .before .before .look .ensures, c .before .before .e9 .given .1, c .condition .ensures)
+returns-9 c = simp (c .before .before .e9 .given .1, c .condition .ensures)
 
 pub decide-spec : {M : Type 1} → statement M
 decide-spec =

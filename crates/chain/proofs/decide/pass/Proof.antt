@@ -16,7 +16,7 @@ returns c = simp (c .before .before .pass .ensures, c .before .if1 .taken, c .an
 
 returns-2 : tie.Need-returns-2
 unfolding passOf
-returns-2 c = simp (c .before .pass .ensures, c .if1 .left)
+returns-2 c = simp (c .if1 .left)
 
 pub pass-spec : {M : Type 1} → statement M
 pass-spec = tie.close (tie.spec pass-requires answer-of-requires returns returns-2)

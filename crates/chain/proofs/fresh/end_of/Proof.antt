@@ -1,7 +1,7 @@
 -- `chain::fresh::end_of` meets its contract: each return rewrites with the tests that led there.
 use Rattle.chain.specs.Fresh.{endOf}
 use borrow.Author.Needs.{needs}
-use borrow.Author.Tests.{lt-ltb, le-ltb, le-leb, lt-leb}
+use borrow.Author.Tests.{lt-ltb, le-ltb}
 use Rattle.chain.proofs.fresh.end_of.Statement.{statement}
 use Rattle.chain.proofs.fresh.end_of.Tie as tie
 
@@ -10,7 +10,7 @@ enum-told c = search needs
 
 returns : tie.Need-returns
 unfolding endOf
-returns c = simp (c .before .enum-told .given .1, lt-leb _ _ (c .if1 .taken), lt-ltb _ _ (c .if1 .taken))
+returns c = simp (c .before .enum-told .given .1, lt-ltb _ _ (c .if1 .taken))
 
 cast-result : tie.Need-cast-result
 cast-result c = search needs
@@ -20,7 +20,7 @@ enum-told-2 c = search needs
 
 returns-2 : tie.Need-returns-2
 unfolding endOf
-returns-2 c = simp (c .before .enum-told .given .1, le-ltb _ _ (c .if1 .left), le-leb _ _ (c .if1 .left))
+returns-2 c = simp (c .before .enum-told .given .1, le-ltb _ _ (c .if1 .left))
 
 returns-3 : tie.Need-returns-3
 unfolding endOf

@@ -1,7 +1,7 @@
 -- `chain::record::state_in` meets its contract: each return rewrites with the tests that led there.
 use Rattle.chain.specs.Record.{slotState}
 use borrow.Author.Needs.{needs}
-use borrow.Author.Tests.{lt-ltb, le-ltb, le-leb, lt-leb}
+use borrow.Author.Tests.{le-leb, lt-leb}
 use Rattle.chain.proofs.record.state_in.Statement.{statement}
 use Rattle.chain.proofs.record.state_in.Tie as tie
 
@@ -10,7 +10,7 @@ blank-requires c κs = search needs
 
 returns : tie.Need-returns
 unfolding slotState
-returns c = simp (lt-leb _ _ (c .before .if1 .taken), lt-ltb _ _ (c .before .if1 .taken), c .blank .ensures)
+returns c = simp (lt-leb _ _ (c .before .if1 .taken), c .blank .ensures)
 
 blank-requires-2 : tie.Need-blank-requires-2
 blank-requires-2 c κs = search needs
@@ -19,13 +19,7 @@ returns-2 : tie.Need-returns-2
 unfolding slotState
 returns-2 c =
     let b2 = c .before .before in
-    simp (
-      le-ltb _ _ (b2 .if1 .left),
-      le-leb _ _ (b2 .if1 .left),
-      lt-leb _ _ (c .before .if2 .taken),
-      lt-ltb _ _ (c .before .if2 .taken),
-      c .blank2 .ensures,
-    )
+    simp (le-leb _ _ (b2 .if1 .left), lt-leb _ _ (c .before .if2 .taken), c .blank2 .ensures)
 
 cast-result : tie.Need-cast-result
 cast-result c = search needs
@@ -40,7 +34,7 @@ returns-3 : tie.Need-returns-3
 unfolding slotState
 returns-3 c =
     let b2 = c .before .before in
-    simp (le-ltb _ _ (b2 .if1 .left), le-leb _ _ (b2 .if1 .left), le-ltb _ _ (c .before .if2 .left), le-leb _ _ (c .before .if2 .left))
+    simp (le-leb _ _ (b2 .if1 .left), le-leb _ _ (c .before .if2 .left))
 
 pub state-in-spec : {M : Type 1} → statement M
 state-in-spec =

@@ -1,7 +1,7 @@
 -- `chain::sound::is_sound` meets its contract: each return rewrites with the tests that led there.
 use Rattle.chain.specs.Sound.{soundB}
 use borrow.Author.Needs.{needs}
-use borrow.Author.Tests.{lt-ltb, le-ltb, le-leb, lt-leb, not-true, not-false}
+use borrow.Author.Tests.{lt-ltb, le-ltb, not-true, not-false}
 use Rattle.chain.proofs.sound.is_sound.Statement.{statement}
 use Rattle.chain.proofs.sound.is_sound.Tie as tie
 
@@ -17,7 +17,7 @@ unfolding soundB
 returns-2 c =
     let b2 = c .before .before in
     let b3 = b2 .before in
-    simp (← b3 .lines-ok .ensures, not-false (b3 .lines-ok .result) (b2 .if1 .left), lt-leb _ _ (c .if2 .taken), lt-ltb _ _ (c .if2 .taken))
+    simp (← b3 .lines-ok .ensures, not-false (b3 .lines-ok .result) (b2 .if1 .left), lt-ltb _ _ (c .if2 .taken))
 
 places-ok-requires : tie.Need-places-ok-requires
 places-ok-requires c κs = search needs
@@ -28,14 +28,7 @@ returns-3 c =
     let b2 = c .before .before in
     let b4 = b2 .before .before in
     let b5 = b4 .before in
-    simp (
-      ← b5 .lines-ok .ensures,
-      not-false (b5 .lines-ok .result) (b4 .if1 .left),
-      le-ltb _ _ (b2 .if2 .left),
-      le-leb _ _ (b2 .if2 .left),
-      ← c .before .places-ok .ensures,
-      not-true (c .before .places-ok .result) (c .if3 .taken),
-    )
+    simp (← b5 .lines-ok .ensures, not-false (b5 .lines-ok .result) (b4 .if1 .left), le-ltb _ _ (b2 .if2 .left), ← c .before .places-ok .ensures, not-true (c .before .places-ok .result) (c .if3 .taken))
 
 drives-ok-requires : tie.Need-drives-ok-requires
 drives-ok-requires c κs = search needs
@@ -47,15 +40,7 @@ returns-4 c =
     let b3 = b2 .before in
     let b5 = b3 .before .before in
     let b6 = b5 .before in
-    simp (
-      ← b6 .lines-ok .ensures,
-      not-false (b6 .lines-ok .result) (b5 .if1 .left),
-      le-ltb _ _ (b3 .if2 .left),
-      le-leb _ _ (b3 .if2 .left),
-      ← b2 .places-ok .ensures,
-      not-false (b2 .places-ok .result) (c .before .if3 .left),
-      ← c .drives-ok .ensures,
-    )
+    simp (← b6 .lines-ok .ensures, not-false (b6 .lines-ok .result) (b5 .if1 .left), le-ltb _ _ (b3 .if2 .left), ← b2 .places-ok .ensures, not-false (b2 .places-ok .result) (c .before .if3 .left), ← c .drives-ok .ensures)
 
 pub is-sound-spec : {M : Type 1} → statement M
 is-sound-spec =

@@ -1,17 +1,17 @@
 -- `chain::sound::place` meets its contract: each return rewrites with the tests that led there.
 use Rattle.chain.specs.Sound.{placedOf}
 use borrow.Author.Needs.{needs}
-use borrow.Author.Tests.{lt-ltb, le-ltb, le-leb, lt-leb, eq-eqb, ne-eqb}
+use borrow.Author.Tests.{lt-ltb, le-ltb, eq-eqb, ne-eqb}
 use Rattle.chain.proofs.sound.place.Statement.{statement}
 use Rattle.chain.proofs.sound.place.Tie as tie
 
 returns : tie.Need-returns
 unfolding placedOf
-returns c = simp (lt-leb _ _ (c .if1 .taken), lt-ltb _ _ (c .if1 .taken))
+returns c = simp (lt-ltb _ _ (c .if1 .taken))
 
 returns-2 : tie.Need-returns-2
 unfolding placedOf
-returns-2 c = simp (le-ltb _ _ (c .before .before .if1 .left), le-leb _ _ (c .before .before .if1 .left), ne-eqb _ _ (c .if2 .taken))
+returns-2 c = simp (le-ltb _ _ (c .before .before .if1 .left), ne-eqb _ _ (c .if2 .taken))
 
 pack-ok-requires : tie.Need-pack-ok-requires
 pack-ok-requires c κs = search needs
@@ -34,13 +34,7 @@ returns-3 c =
     let b2 = c .before .before in
     let b4 = b2 .before .before in
     let b6 = b4 .before .before in
-    simp (
-      le-ltb _ _ (b6 .if1 .left),
-      le-leb _ _ (b6 .if1 .left),
-      eq-eqb _ _ (b4 .if2 .left),
-      ← b2 .pack-ok .ensures,
-      c .medium .ensures .is,
-    )
+    simp (le-ltb _ _ (b6 .if1 .left), eq-eqb _ _ (b4 .if2 .left), ← b2 .pack-ok .ensures, c .medium .ensures .is)
 
 pub place-spec : {M : Type 1} → statement M
 place-spec =
