@@ -1,0 +1,4 @@
+// The bus runner.
+fn main() {
+    runner::start();
+}

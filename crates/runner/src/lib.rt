@@ -1,0 +1,141 @@
+// The bus runner: fits a chain from a pack file and answers event lines. What is wrong goes to standard error.
+mod stream;
+
+use chain::fresh;
+use counts::Cylinder;
+use counts::Head;
+use counts::Place;
+use counts::Position;
+use libc::STDERR_FILENO;
+use pack::Refusal;
+use pack::lay;
+use pack::read::Answer;
+use trailer::Profile;
+use trailer::Shape;
+ghost use mathlib.Core.Path.{_≡_};
+ghost use lib.ListN.{length};
+
+// The longest pack file that is taken: it lies on the stack.
+const LIMIT: usize = 1048576;
+
+// The length of the smallest drive's pack.
+const SMALLEST: usize = 4139;
+
+fn complain(text: &[u8]) {
+    io::write_all(STDERR_FILENO, text);
+}
+
+fn usage() {
+    complain(b"usage: bus [PACK-FILE] < EVENTS\n");
+}
+
+fn complain_refused(why: Refusal, place: Place) {
+    complain(b"refused ");
+    io::print_decimal(STDERR_FILENO, pack::number(why) as u64);
+    complain(b" at ");
+    io::print_decimal(STDERR_FILENO, place.0 as u64);
+    complain(b"\n");
+}
+
+// Answers standard input's events over a pack file in memory.
+fn run(file: &mut [u8]) {
+    let fitted = fresh::fit(file);
+    let answer = fitted.answer;
+    match answer {
+        Answer::Whole => stream::serve(fitted.chain, file),
+        Answer::Refused(why, place) => complain_refused(why, place),
+    }
+}
+
+fn smallest(slot: u8) -> Profile {
+    let shape = Shape {
+        cylinders: Cylinder(1),
+        heads: Head(1),
+        track: Position(4095),
+        sector: Position(512),
+    };
+    let mut p = Profile::blank();
+    p.slot = slot;
+    p.general = 0x0242;
+    p.shape = shape;
+    p
+}
+
+// The smallest drive in slots 1 and 3.
+fn run_two(file: &mut [u8])
+    requires { ⌜ length (now file) ≡ 8278 ⌝ }
+{
+    lay::lay(smallest(1), file);
+    lay::lay(smallest(3), &mut file[SMALLEST..]);
+    run(file);
+}
+
+fn run_smallest() {
+    let mut file = [0u8; 2 * SMALLEST];
+    run_two(&mut file);
+}
+
+// Whether the file has no byte past those read.
+fn at_end(fd: i32, path: &[u8]) -> bool {
+    let mut next = [0u8; 1];
+    let more = libc::read(fd, &mut next);
+    if more == 0 {
+        return true;
+    }
+    if more < 0 {
+        os::fail(path);
+        return false;
+    }
+    complain(path);
+    complain(b": longer than ");
+    io::print_decimal(STDERR_FILENO, LIMIT as u64);
+    complain(b" bytes, the most that is taken\n");
+    false
+}
+
+fn run_open(fd: i32, path: &[u8], room: &mut [u8]) {
+    let n = io::read_full(fd, room);
+    let whole = at_end(fd, path);
+    libc::close(fd);
+    if whole {
+        run(&mut room[..n]);
+    }
+}
+
+// An array behind a reference of its own type is lent as a slice with no proof of its length.
+fn run_in(fd: i32, path: &[u8], room: &mut [u8; LIMIT]) {
+    run_open(fd, path, room);
+}
+
+fn run_named(path: &[u8]) {
+    let fd = os::open_read(path);
+    if fd < 0 {
+        os::fail(path);
+        usage();
+        return;
+    }
+    let mut room = [0u8; LIMIT];
+    run_in(fd, path, &mut room);
+}
+
+// The whole program: no argument, or the path of a pack file.
+pub fn start() {
+    let words = os::arg_count();
+    if words < 2 {
+        run_smallest();
+        return;
+    }
+    if words > 2 {
+        complain(b"bus: more than one argument\n");
+        usage();
+        return;
+    }
+    let mut path = io::buffer();
+    let n = os::arg(1, &mut path);
+    if os::errno() != 0 {
+        os::fail(b"path");
+        usage();
+        return;
+    }
+    run_named(&path[..n]);
+}
