@@ -3,3 +3,4 @@ pub mod Tests
 pub mod First
 pub mod Bytes
 pub mod Ones
+pub mod Tight
