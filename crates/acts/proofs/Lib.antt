@@ -1,3 +1,4 @@
 pub mod Times
 pub mod Limits
 pub mod Keep
+pub mod Leaves

@@ -9,9 +9,9 @@ use Rattle.counts.specs.Choice.{if_then_else_}
 use Rattle.trailer.specs.declared.Times.{Times}
 use Rattle.drive.specs.declared.Arm.{Arm}
 use Rattle.drive.specs.declared.Body.{Body}
+use Rattle.drive.specs.State.{stopped, starting, up, with-timers, with-arm, with-latched, with-sector, with-motor}
 use Rattle.acts.specs.declared.Act.{Act}
 use Rattle.acts.specs.declared.Act.the-variants.{Seek, Recalibrate, Clear, Stop, Start, Offset, Diagnose, Sector}
-use Rattle.drive.specs.State.{stopped, starting, up, with-timers, with-arm, with-latched, with-sector, with-motor}
 
 -- "Distance is the displacement without its sign."
 abbrev pub distanceOf : Cylinder → Cylinder → Cylinder
@@ -37,6 +37,9 @@ busyFor t b = with-motor (motorFor (b .motor) t) (with-timers (record { busy = t
 abbrev pub home : Arm
 home = record { cylinder = record { 0 = 0 }; offset = 0; lost = 0 }
 
+abbrev pub homedOf : Body → Body
+homedOf b = with-arm home b
+
 -- "The cylinder changes at once.": "offset 0; busy = settle + step × distance"
 abbrev pub seekOf : Times → Cylinder → Body → Body
 seekOf t to b =
@@ -45,7 +48,7 @@ seekOf t to b =
 
 -- "cylinder 0, offset 0, position found; busy = recalibrate time"
 abbrev pub recalibrateOf : Times → Body → Body
-recalibrateOf t b = busyFor (t .recalibrate) (with-arm home b)
+recalibrateOf t b = busyFor (t .recalibrate) (homedOf b)
 
 -- "0 clears latched bits"
 abbrev pub clearedOf : Body → Body
@@ -57,7 +60,7 @@ stopOf b = with-motor stopped b
 
 -- "start when not stopped do nothing; start sets cylinder 0, offset 0, position found, busy = start time"
 unfoldable pub startOf : Times → Body → Body
-startOf t b = if eqb (b .motor) stopped then busyFor (t .start) (with-motor starting (with-arm home b)) else b
+startOf t b = if eqb (b .motor) stopped then busyFor (t .start) (with-motor starting (homedOf b)) else b
 
 -- "0, 1 restore; 2 is +1; 3 is −1; busy = offset time"
 abbrev pub offsetOf : Times → ℕ → Body → Body

@@ -7,7 +7,7 @@ use drive::Body;
 use drive::Latched;
 use trailer::Times;
 ghost use mathlib.Core.Path.{_≡_};
-ghost use Rattle.acts.specs.Acts.{distanceOf, seekTime, motorFor, busyFor, seekOf, recalibrateOf, clearedOf, stopOf, startOf, offsetOf, sectorOf, actedOf};
+ghost use Rattle.acts.specs.Acts.{distanceOf, seekTime, motorFor, busyFor, seekOf, homedOf, recalibrateOf, clearedOf, stopOf, startOf, offsetOf, sectorOf, actedOf};
 
 // Offset: the arm's code.
 pub enum Act {
@@ -88,13 +88,19 @@ fn seek(t: Times, b: Body, to: Cylinder) -> Body
     busy_for(e, seek_time(t, distance(from, to)))
 }
 
-fn recalibrate(t: Times, b: Body) -> Body
-    ensures { λ r. ⌜ r ≡ recalibrateOf t b ⌝ }
+fn homed(b: Body) -> Body
+    ensures { λ r. ⌜ r ≡ homedOf b ⌝ }
 {
     let arm = HOME;
     let mut e = b;
     e.arm = arm;
-    busy_for(e, t.recalibrate)
+    e
+}
+
+fn recalibrate(t: Times, b: Body) -> Body
+    ensures { λ r. ⌜ r ≡ recalibrateOf t b ⌝ }
+{
+    busy_for(homed(b), t.recalibrate)
 }
 
 // Control 0.
@@ -121,9 +127,8 @@ fn start(t: Times, b: Body) -> Body
     if b.motor != Body::STOPPED {
         return b;
     }
-    let arm = HOME;
-    let mut e = b;
-    e.arm = arm;
+    let home = homed(b);
+    let mut e = home;
     e.motor = Body::STARTING;
     busy_for(e, t.start)
 }

@@ -8,12 +8,12 @@ use Rattle.trailer.specs.declared.Profile.{Profile}
 use Rattle.trailer.specs.General.{offsetOption, motorOption, soft}
 use Rattle.drive.specs.declared.Body.{Body}
 use Rattle.drive.specs.Status.{readyB}
+use Rattle.acts.specs.declared.Act.the-variants.{Seek, Recalibrate, Clear, Stop, Start, Offset, Diagnose, Sector}
 use Rattle.command.specs.declared.table.Row.{Row}
 use Rattle.command.specs.declared.Effect.{Effect}
 use Rattle.command.specs.declared.Effect.the-variants.{Fails, Status, Configuration, Does}
-use Rattle.acts.specs.declared.Act.the-variants.{Seek, Recalibrate, Clear, Stop, Start, Offset, Diagnose, Sector}
 use Rattle.command.specs.Word.{wordOf, codeOf, modifierOf, numberOf, oddB}
-use Rattle.command.specs.Table.{motor, offsets, hard, ready, position, seek, recalibrate, status, configuration, clear, stop, start, restore, plus, minus, diagnose, sector, foundOf}
+use Rattle.command.specs.Table.{motor, offsets, hard, ready, position, seek, recalibrate, status, configuration, clear, stop, start, restore, plus, minus, diagnose, sector, optionIn, asksIn, actIn, foundOf}
 
 -- "with motor option", "with offset option", "hard sectored"
 unfoldable pub optionB : Profile → ℕ → Bool
@@ -23,7 +23,7 @@ optionB p option =
     else if eqb option hard then not (soft (p .general))
     else true
 
--- "162..4,095"
+-- "set bytes per sector": "162..4,095"
 abbrev pub sizeB : ℕ → Bool
 sizeB size = within 162 4095 size
 
@@ -34,14 +34,14 @@ operandB p act w =
     else eqb (w % 256) 0  -- "so are non-zero bits 7..0 outside 0 and 9"
 
 abbrev pub validB : Profile → Row → ℕ → Bool
-validB p r w = optionB p (r .3) && operandB p (r .5) w
+validB p r w = optionB p (optionIn r) && operandB p (actIn r) w
 
 unfoldable pub blockedB : Body → ℕ → Bool
 blockedB b asks =
     (leb ready asks && not (readyB b))  -- "seek, recalibrate or offset when not ready"
     || (leb position asks && not (eqb (b .arm .lost) 0))  -- "seek or offset with position lost"
 
--- the column "effect", by its name; an offset's code is that of the arm
+-- the column "effect", by the row's act; an offset by the arm's code
 unfoldable pub actOf : ℕ → ℕ → Effect
 actOf act w =
     if eqb act seek then Does (Seek (record { 0 = numberOf w }))
@@ -56,15 +56,15 @@ actOf act w =
     else if eqb act minus then Does (Offset 2)
     else if eqb act diagnose then Does Diagnose
     else if eqb act sector then Does (Sector (record { 0 = numberOf w }))
-    else Fails (2 ^ 5)  -- the invalid row
+    else Fails (2 ^ 5)  -- "Other codes are invalid"
 
 -- "Order for a whole word"
 unfoldable pub orderOf : Profile → Body → ℕ → Row → ℕ → Effect
 orderOf p b n r w =
     if not (oddB n) then Fails (2 ^ 7)  -- "even parity, bit 7"
     else if not (validB p r w) then Fails (2 ^ 5)  -- "invalid, bit 5"
-    else if blockedB b (r .4) then Fails (2 ^ 4)  -- "bit 4"
-    else actOf (r .5) w  -- "else carried out"
+    else if blockedB b (asksIn r) then Fails (2 ^ 4)  -- "when not ready, bit 4; .. with position lost, bit 4"
+    else actOf (actIn r) w  -- "else carried out"
 
 unfoldable pub effectOf : Profile → Body → ℕ → Effect
 effectOf p b n = orderOf p b n (foundOf (codeOf (wordOf n)) (modifierOf (wordOf n))) (wordOf n)

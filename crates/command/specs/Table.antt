@@ -21,7 +21,7 @@ offsets = 2
 abbrev pub hard : ℕ
 hard = 3
 
--- what is asked of the drive, each with what stands before it
+-- what is asked of the drive: that it is ready, and then that its position is known
 abbrev pub nothing : ℕ
 nothing = 0
 
@@ -75,6 +75,24 @@ sector = 12
 abbrev pub row : ℕ → ℕ → ℕ → ℕ → ℕ → ℕ → Row
 row code from to option asks act = record { 0 = code; 1 = from; 2 = to; 3 = option; 4 = asks; 5 = act }
 
+abbrev pub codeIn : Row → ℕ
+codeIn r = r .0
+
+abbrev pub fromIn : Row → ℕ
+fromIn r = r .1
+
+abbrev pub toIn : Row → ℕ
+toIn r = r .2
+
+abbrev pub optionIn : Row → ℕ
+optionIn r = r .3
+
+abbrev pub asksIn : Row → ℕ
+asksIn r = r .4
+
+abbrev pub actIn : Row → ℕ
+actIn r = r .5
+
 abbrev pub commands : List Row
 commands =
     row 0 0 15 any position seek  -- "seek, bits 11..0"
@@ -101,7 +119,7 @@ rows = commands ++ (invalidRow ∷ [])
 
 -- whose "code and range fit"
 abbrev pub fitsB : ℕ → ℕ → Row → Bool
-fitsB code modifier r = allOf (eqb (r .0) code ∷ leb (r .1) modifier ∷ leb modifier (r .2) ∷ [])
+fitsB code modifier r = allOf (eqb (codeIn r) code ∷ leb (fromIn r) modifier ∷ leb modifier (toIn r) ∷ [])
 
 -- the number of "the first row", or that of the invalid row behind them
 unfoldable pub rowOf : ℕ → ℕ → ℕ

@@ -104,8 +104,11 @@ fn blocked(b: Body, asks: u8) -> bool
 fn order(p: Profile, b: Body, n: u32, r: Row, w: u16) -> Effect
     ensures { λ e. ⌜ e ≡ orderOf p b n r w ⌝ }
 {
-    let invalid = !(option_met(p, r.3) & operand_ok(p, r.5, w));
-    let stuck = blocked(b, r.4);
+    let option = r.3;
+    let asks = r.4;
+    let act = r.5;
+    let invalid = !(option_met(p, option) & operand_ok(p, act, w));
+    let stuck = blocked(b, asks);
     if !odd(n) {
         return Effect::Fails(Latched::PARITY);
     }
@@ -115,7 +118,7 @@ fn order(p: Profile, b: Body, n: u32, r: Row, w: u16) -> Effect
     if stuck {
         return Effect::Fails(Latched::SEEK);
     }
-    acting(r.5, w)
+    acting(act, w)
 }
 
 // What a word with its parity comes to on a drive.

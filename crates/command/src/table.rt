@@ -72,7 +72,9 @@ const ROWS: [Row; 13] = [
 fn row_fits(r: Row, code: u8, modifier: u8) -> bool
     ensures { λ b. ⌜ b ≡ fitsB code modifier r ⌝ }
 {
-    (r.0 == code) & (r.1 <= modifier) & (modifier <= r.2)
+    let from = r.1;
+    let to = r.2;
+    (r.0 == code) & (from <= modifier) & (modifier <= to)
 }
 
 // The number of the first row that fits, or the invalid row's.

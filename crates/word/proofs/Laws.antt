@@ -7,6 +7,7 @@ use Rattle.trailer.specs.declared.Profile.{Profile}
 use Rattle.drive.specs.declared.Body.{Body}
 use Rattle.drive.specs.declared.Outcome.the-variants.{Fault}
 use Rattle.drive.specs.Status.{calmB, statusOf}
+use Rattle.acts.proofs.Leaves.{Leaves, same-leaves, latch-leaves, act-leaves}
 use Rattle.command.specs.declared.Effect.{Effect}
 use Rattle.command.specs.declared.Effect.the-variants.{Fails, Status, Configuration, Does}
 use Rattle.command.specs.Word.{oddB, withParity}
@@ -53,3 +54,14 @@ done-fault p b (Does act) h = let z : _≡_ {A = ℕ} 0 1 = cc in absurd (omega 
 pub fault-only : (p : Profile) (b : Body) (n : ℕ) → carryOf p b n .outcome ≡ Fault → (value : ℕ) × (carryOf p b n ≡ failing value b)
 unfolding carryOf
 fault-only p b n h = done-fault p b (effectOf p b n) h
+
+done-leaves : (p : Profile) (b : Body) (e : Effect) → Leaves b (doneOf p b e .body)
+unfolding doneOf
+done-leaves p b (Fails value) = latch-leaves value b
+done-leaves p b Status = same-leaves b
+done-leaves p b (Configuration modifier) = same-leaves b
+done-leaves p b (Does act) = act-leaves (p .times) b act
+
+pub word-leaves : (p : Profile) (b : Body) (n : ℕ) → Leaves b (carryOf p b n .body)
+unfolding carryOf
+word-leaves p b n = done-leaves p b (effectOf p b n)

@@ -13,15 +13,15 @@ use Rattle.drive.specs.State.{stateOf}
 use Rattle.drive.specs.Faults.{latchOf, latchBit}
 use Rattle.drive.specs.Status.{completeB, statusOf}
 use Rattle.acts.specs.declared.Act.{Act}
+use Rattle.acts.specs.Acts.{actedOf}
 use Rattle.command.specs.declared.Effect.{Effect}
 use Rattle.command.specs.declared.Effect.the-variants.{Fails, Status, Configuration, Does}
+use Rattle.command.specs.Word.{withParity}
+use Rattle.command.specs.Effect.{effectOf}
 use Rattle.word.specs.declared.Told.{Told}
 use Rattle.word.specs.declared.Told.the-variants.{Nothing, Word}
 use Rattle.word.specs.declared.Carried.{Carried}
 use Rattle.word.specs.declared.Answered.{Answered}
-use Rattle.command.specs.Word.{withParity}
-use Rattle.command.specs.Effect.{effectOf}
-use Rattle.acts.specs.Acts.{actedOf}
 use Rattle.word.specs.Responses.{configurationOf}
 
 abbrev pub carried : Outcome → Told → Body → Carried

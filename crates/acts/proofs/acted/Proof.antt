@@ -1,4 +1,4 @@
--- `acts::acted` meets its contract: each return rewrites with the tests that led there.
+-- `acts::acted` meets its contract: each arm rewrites with the act that it knows.
 use Rattle.acts.specs.Acts.{actedOf}
 use borrow.Author.Needs.{needs}
 use Rattle.acts.proofs.acted.Statement.{statement}

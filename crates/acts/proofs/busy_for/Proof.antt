@@ -1,4 +1,4 @@
--- `acts::busy_for` meets its contract: each return rewrites with the tests that led there.
+-- `acts::busy_for` meets its contract: the motor is what its rule gives.
 use Rattle.acts.specs.Acts.{busyFor}
 use borrow.Author.Needs.{needs}
 use Rattle.acts.proofs.busy_for.Statement.{statement}

@@ -1,4 +1,4 @@
--- `acts::seek` meets its contract: each return rewrites with the tests that led there.
+-- `acts::seek` meets its contract: distance, time and arm are put together.
 use borrow.Author.Needs.{needs}
 use Rattle.acts.proofs.seek.Statement.{statement}
 use Rattle.acts.proofs.seek.Tie as tie

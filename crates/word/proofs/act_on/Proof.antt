@@ -1,4 +1,4 @@
--- `word::act_on` meets its contract: each return rewrites with the tests that led there.
+-- `word::act_on` meets its contract: the body is what the act leaves.
 use borrow.Author.Needs.{needs}
 use Rattle.word.proofs.act_on.Statement.{statement}
 use Rattle.word.proofs.act_on.Tie as tie

@@ -1,4 +1,4 @@
--- `word::carry` meets its contract: each return rewrites with the tests that led there.
+-- `word::carry` meets its contract: the effect is decided, then done.
 use Rattle.word.specs.Rules.{carryOf}
 use borrow.Author.Needs.{needs}
 use Rattle.word.proofs.carry.Statement.{statement}

@@ -1,4 +1,4 @@
--- `word::done` meets its contract: each return rewrites with the tests that led there.
+-- `word::done` meets its contract: each arm rewrites with the effect that it knows.
 use Rattle.word.specs.Rules.{doneOf}
 use borrow.Author.Needs.{needs}
 use Rattle.word.proofs.done.Statement.{statement}

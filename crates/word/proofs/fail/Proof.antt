@@ -1,4 +1,4 @@
--- `word::fail` meets its contract: each return rewrites with the tests that led there.
+-- `word::fail` meets its contract: the body is what the latch leaves.
 use borrow.Author.Needs.{needs}
 use Rattle.word.proofs.fail.Statement.{statement}
 use Rattle.word.proofs.fail.Tie as tie

@@ -1,4 +1,4 @@
--- `word::refuse` meets its contract: each return rewrites with the tests that led there.
+-- `word::refuse` meets its contract: the body is what the latch leaves.
 use borrow.Author.Needs.{needs}
 use Rattle.word.proofs.refuse.Statement.{statement}
 use Rattle.word.proofs.refuse.Tie as tie

@@ -1,4 +1,4 @@
--- `word::refuses` meets its contract: each return rewrites with the tests that led there.
+-- `word::refuses` meets its contract: command complete is what the drive says.
 use borrow.Author.Needs.{needs}
 use Rattle.word.proofs.refuses.Statement.{statement}
 use Rattle.word.proofs.refuses.Tie as tie

@@ -1,4 +1,4 @@
--- `word::say` meets its contract: each return rewrites with the tests that led there.
+-- `word::say` meets its contract: the response has its parity.
 use borrow.Author.Needs.{needs}
 use Rattle.word.proofs.say.Statement.{statement}
 use Rattle.word.proofs.say.Tie as tie

@@ -1,4 +1,4 @@
--- `command::decide::blocked` meets its contract: each return rewrites with the tests that led there.
+-- `command::decide::blocked` meets its contract: ready is what the drive says.
 use Rattle.command.specs.Effect.{blockedB}
 use borrow.Author.Needs.{needs}
 use Rattle.command.proofs.decide.blocked.Statement.{statement}

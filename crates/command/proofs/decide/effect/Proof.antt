@@ -1,4 +1,4 @@
--- `command::decide::effect` meets its contract: each return rewrites with the tests that led there.
+-- `command::decide::effect` meets its contract: the word's parts find its row.
 use Rattle.command.specs.Effect.{effectOf}
 use borrow.Author.Needs.{needs}
 use Rattle.command.proofs.decide.effect.Statement.{statement}

@@ -1,4 +1,4 @@
--- `command::decide::operand_ok` meets its contract: each return rewrites with the tests that led there.
+-- `command::decide::operand_ok` meets its contract: each arm rewrites with the number that it knows.
 use Rattle.command.specs.Effect.{operandB}
 use borrow.Author.Needs.{needs}
 use borrow.Author.Tests.{ne-eqb}

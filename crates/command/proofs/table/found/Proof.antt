@@ -1,4 +1,4 @@
--- `command::table::found` meets its contract: each return rewrites with the tests that led there.
+-- `command::table::found` meets its contract: the row's number is one of thirteen; past them an array reads zeros, which are the invalid row's.
 use Rattle.command.specs.Table.{foundOf}
 use Rattle.command.proofs.Rows.{row-most}
 use borrow.Author.Needs.{needs}

@@ -1,4 +1,4 @@
--- `word::responses::configuration` meets its contract: each return rewrites with the tests that led there.
+-- `word::responses::configuration` meets its contract: each arm rewrites with the number that it knows.
 use Rattle.word.specs.Responses.{configurationOf}
 use borrow.Author.Needs.{needs}
 use borrow.Author.Tests.{ne-eqb}
