@@ -22,17 +22,22 @@ use Rattle.event.specs.declared.Decoded.the-variants.{Is, Unknown, Range}
 use Rattle.event.specs.Answer.{numberOf}
 use Rattle.event.specs.Decode.{decodeOf}
 use Rattle.unit.specs.declared.Lines.{Lines}
-use Rattle.chain.specs.declared.Chain.{Chain}
-use Rattle.chain.specs.declared.Decision.{Decision}
-use Rattle.chain.specs.declared.record.Seen.{Seen}
-use Rattle.chain.specs.Record.{slotPack, slotState, fittedB, lookOf}
-use Rattle.chain.specs.Decision.{outcomeAnswer, heardOf}
-use Rattle.chain.specs.Deeds.{saidOf, fileAfter}
-use Rattle.chain.specs.Signals.{with-select, with-heads, with-writegate, with-readgate, with-command, with-request, writeGateOf, readGateOf, requestOf, headsOf}
-use Rattle.chain.specs.Select.{eitherAnswer, movedOf, selectOf}
-use Rattle.chain.specs.Decide.{passOf, cellOf, fixedChange, conditionAt, conditionOf, decideOf}
-use Rattle.chain.specs.Apply.{changedOf, applied}
-use Rattle.chain.specs.Sound.{soundB}
+use Rattle.record.specs.declared.Chain.{Chain}
+use Rattle.decision.specs.declared.Decision.{Decision}
+use Rattle.decision.specs.declared.Seen.{Seen}
+use Rattle.record.specs.Record.{slotPack, slotState, lookOf}
+use Rattle.decision.specs.Decision.{fittedB}
+use Rattle.decision.specs.Decision.{outcomeAnswer, heardOf}
+use Rattle.decision.specs.Deeds.{saidOf, fileAfter}
+use Rattle.kinds.specs.Signals.{with-select, with-heads, with-writegate, with-readgate, with-command, with-request, writeGateOf, readGateOf, requestOf, headsOf}
+use Rattle.kinds.specs.Select.{eitherAnswer, movedOf}
+use Rattle.chain.specs.Decide.{selectOf}
+use Rattle.kinds.specs.Passing.{passOf}
+use Rattle.kinds.specs.Cell.{cellOf}
+use Rattle.kinds.specs.Condition.{fixedChange, conditionAt}
+use Rattle.chain.specs.Decide.{conditionOf, decideOf}
+use Rattle.record.specs.Apply.{changedOf, applied}
+use Rattle.soundness.specs.Sound.{soundB}
 use Rattle.board.specs.declared.Stepped.{Stepped}
 use Rattle.board.specs.Step.{goOf, goFile, stepOf, stepFile}
 

@@ -12,13 +12,13 @@ use Rattle.event.specs.declared.Decoded.the-variants.{Is, Unknown, Range}
 use Rattle.event.specs.declared.Answer.{Answer}
 use Rattle.event.specs.declared.Answer.the-variants.{UnknownKind, OutOfRange, Malformed, WrongLength}
 use Rattle.event.specs.Decode.{decodeOf}
-use Rattle.chain.specs.declared.Chain.{Chain}
-use Rattle.chain.specs.declared.Decision.{Decision}
-use Rattle.chain.specs.declared.Deed.{Deed}
-use Rattle.chain.specs.Deeds.{saidOf, fileAfter}
+use Rattle.record.specs.declared.Chain.{Chain}
+use Rattle.decision.specs.declared.Decision.{Decision}
+use Rattle.decision.specs.declared.Deed.{Deed}
+use Rattle.decision.specs.Deeds.{saidOf, fileAfter}
 use Rattle.chain.specs.Decide.{decideOf}
-use Rattle.chain.specs.Apply.{applied}
-use Rattle.chain.specs.Sound.{soundB}
+use Rattle.record.specs.Apply.{applied}
+use Rattle.soundness.specs.Sound.{soundB}
 use Rattle.board.specs.declared.Stepped.{Stepped}
 
 pub record Obeyed (deed : Deed) (file : List ℕ) (r : Answer) (after : List ℕ) : Type 0 where

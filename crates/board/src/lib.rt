@@ -1,17 +1,16 @@
 // An event in, an answer out, over the lent file. Nothing is expected of the caller: every record, file and number is taken or refused.
-use chain::Chain;
-use chain::Deed;
-use chain::apply;
 use chain::decide;
-use chain::sound;
+use decision::Deed;
 use event::Answer;
 use event::Decoded;
 use event::Event;
+use record::Chain;
+use record::apply;
 ghost use mathlib.Core.Path.{_≡_};
 ghost use mathlib.Core.Bool.{true};
 ghost use lib.ListN.{length};
-ghost use Rattle.chain.specs.Sound.{soundB};
-ghost use Rattle.chain.specs.Deeds.{Fits};
+ghost use Rattle.soundness.specs.Sound.{soundB};
+ghost use Rattle.decision.specs.Deeds.{Fits};
 ghost use Rattle.board.specs.Step.{Obeyed, Acted, refusedOf, Gone, stepOf, stepFile};
 
 pub struct Stepped {
@@ -55,7 +54,7 @@ fn refused(c: Chain, answer: Answer) -> Stepped
 fn go(c: Chain, file: &mut [u8], e: Event) -> Stepped
     ensures { λ r. ⌜ Gone e c (now (file .entry)) r (now (file .exit)) ⌝ }
 {
-    if !sound::is_sound(c) {
+    if !soundness::is_sound(c) {
         return refused(c, Answer::Malformed);
     }
     if file.len() != c.length.0 as usize {

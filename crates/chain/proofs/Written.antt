@@ -17,17 +17,22 @@ use Rattle.event.specs.declared.Event.{Event}
 use Rattle.event.specs.declared.Event.the-variants.{Select, Heads, WriteGate, ReadGate, Data, Request, Pass, Cell, Condition}
 use Rattle.unit.specs.declared.Lines.{Lines}
 use Rattle.unit.proofs.Facts.{writes}
-use Rattle.chain.specs.declared.Chain.{Chain}
-use Rattle.chain.specs.declared.Deed.the-variants.{Say, Read, Write}
-use Rattle.chain.specs.declared.Decision.{Decision}
-use Rattle.chain.specs.declared.record.Seen.{Seen}
-use Rattle.chain.specs.Record.{slotPack, fittedB, lookOf}
-use Rattle.chain.specs.Decision.{sayOf, heardOf}
-use Rattle.chain.specs.Signals.{writeGateOf, readGateOf, requestOf, headsOf}
-use Rattle.chain.specs.Select.{movedOf, selectOf}
-use Rattle.chain.specs.Decide.{passOf, cellPlace, touching, cellOf, fixedChange, conditionAt, conditionOf, decideOf}
-use Rattle.chain.specs.Sound.{soundB}
-use Rattle.chain.proofs.Facts.{chosen, cell-inside}
+use Rattle.record.specs.declared.Chain.{Chain}
+use Rattle.decision.specs.declared.Deed.the-variants.{Say, Read, Write}
+use Rattle.decision.specs.declared.Decision.{Decision}
+use Rattle.decision.specs.declared.Seen.{Seen}
+use Rattle.record.specs.Record.{slotPack, lookOf}
+use Rattle.decision.specs.Decision.{fittedB}
+use Rattle.decision.specs.Decision.{sayOf, heardOf}
+use Rattle.kinds.specs.Signals.{writeGateOf, readGateOf, requestOf, headsOf}
+use Rattle.kinds.specs.Select.{movedOf}
+use Rattle.chain.specs.Decide.{selectOf}
+use Rattle.kinds.specs.Passing.{passOf}
+use Rattle.kinds.specs.Cell.{cellPlace, touching, cellOf}
+use Rattle.kinds.specs.Condition.{fixedChange, conditionAt}
+use Rattle.chain.specs.Decide.{conditionOf, decideOf}
+use Rattle.soundness.specs.Sound.{soundB}
+use Rattle.soundness.proofs.Facts.{chosen, cell-inside}
 
 -- the drive under which the byte at a place of the file is written
 pub record Written (c : Chain) (place : ℕ) : Type 0 where

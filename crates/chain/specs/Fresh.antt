@@ -16,9 +16,9 @@ use Rattle.drive.specs.declared.State.{State}
 use Rattle.drive.specs.State.{freshOf, blankState}
 use Rattle.unit.specs.declared.Lines.{Lines}
 use Rattle.unit.specs.Sum.{sumOf}
-use Rattle.chain.specs.declared.Chain.{Chain}
+use Rattle.record.specs.declared.Chain.{Chain}
 use Rattle.chain.specs.declared.fresh.Fitted.{Fitted}
-use Rattle.chain.specs.Record.{lookOf}
+use Rattle.record.specs.Record.{lookOf}
 
 -- "All lines are low."
 abbrev pub lowLines : Lines

@@ -1,9 +1,2 @@
-pub mod Record
-pub mod Decision
-pub mod Signals
-pub mod Select
 pub mod Decide
-pub mod Apply
-pub mod Sound
-pub mod Deeds
 pub mod Fresh

@@ -1,12 +1,12 @@
 // The fresh chain of a pack file, and what the selected drive shows.
-use crate::Chain;
-use crate::record;
 use counts::Head;
 use counts::Place;
 use drive::State;
 use pack::Pack;
 use pack::read;
 use pack::read::Answer;
+use record::Chain;
+use record::slots;
 use unit::Lines;
 use unit::shows;
 ghost use mathlib.Core.Path.{_≡_};
@@ -101,7 +101,7 @@ pub fn fit(file: &[u8]) -> Fitted
 pub fn line_sum(c: Chain) -> u8
     ensures { λ r. ⌜ r ≡ lineSum c ⌝ }
 {
-    let d = record::look(c);
+    let d = slots::look(c);
     if !d.on {
         return 0;
     }

@@ -1,8 +1,8 @@
 // Event lines in, answer lines out, in blocks. Bytes are scanned apart from the chain, which moves once a line.
-use chain::Chain;
 use chain::fresh;
 use libc::STDIN_FILENO;
 use libc::STDOUT_FILENO;
+use record::Chain;
 use text::Line;
 use text::Scan;
 ghost use mathlib.Core.Path.{_≡_};

@@ -1,0 +1,5 @@
+pub mod Signals
+pub mod Select
+pub mod Passing
+pub mod Cell
+pub mod Condition

@@ -1,0 +1,55 @@
+-- `soundness::is_sound` meets its contract: each return rewrites with the tests that led there.
+use Rattle.soundness.specs.Sound.{soundB}
+use borrow.Author.Needs.{needs}
+use borrow.Author.Tests.{lt-ltb, le-ltb, not-true, not-false}
+use Rattle.soundness.proofs.is_sound.Statement.{statement}
+use Rattle.soundness.proofs.is_sound.Tie as tie
+
+lines-ok-requires : tie.Need-lines-ok-requires
+lines-ok-requires c κs = search needs
+
+returns : tie.Need-returns
+unfolding soundB
+returns c = simp (← c .before .lines-ok .ensures, not-true (c .before .lines-ok .result) (c .if1 .taken))
+
+returns-2 : tie.Need-returns-2
+unfolding soundB
+returns-2 c =
+    let b2 = c .before .before in
+    let b3 = b2 .before in
+    simp (← b3 .lines-ok .ensures, not-false (b3 .lines-ok .result) (b2 .if1 .left), lt-ltb _ _ (c .if2 .taken))
+
+places-ok-requires : tie.Need-places-ok-requires
+places-ok-requires c κs = search needs
+
+returns-3 : tie.Need-returns-3
+unfolding soundB
+returns-3 c =
+    let b2 = c .before .before in
+    let b4 = b2 .before .before in
+    let b5 = b4 .before in
+    simp (← b5 .lines-ok .ensures, not-false (b5 .lines-ok .result) (b4 .if1 .left), le-ltb _ _ (b2 .if2 .left), ← c .before .places-ok .ensures, not-true (c .before .places-ok .result) (c .if3 .taken))
+
+drives-ok-requires : tie.Need-drives-ok-requires
+drives-ok-requires c κs = search needs
+
+returns-4 : tie.Need-returns-4
+unfolding soundB
+returns-4 c =
+    let b2 = c .before .before in
+    let b3 = b2 .before in
+    let b5 = b3 .before .before in
+    let b6 = b5 .before in
+    simp (← b6 .lines-ok .ensures, not-false (b6 .lines-ok .result) (b5 .if1 .left), le-ltb _ _ (b3 .if2 .left), ← b2 .places-ok .ensures, not-false (b2 .places-ok .result) (c .before .if3 .left), ← c .drives-ok .ensures)
+
+pub is-sound-spec : {M : Type 1} → statement M
+is-sound-spec =
+    tie.close
+    (tie.spec
+    lines-ok-requires
+    returns
+    returns-2
+    places-ok-requires
+    returns-3
+    drives-ok-requires
+    returns-4)
