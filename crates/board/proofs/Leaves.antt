@@ -38,8 +38,8 @@ use Rattle.kinds.specs.Condition.{fixedChange, conditionAt}
 use Rattle.chain.specs.Decide.{conditionOf, decideOf}
 use Rattle.record.specs.Apply.{changedOf, applied}
 use Rattle.soundness.specs.Sound.{soundB}
-use Rattle.board.specs.declared.Stepped.{Stepped}
-use Rattle.board.specs.Step.{goOf, goFile, stepOf, stepFile}
+use Rattle.judge.specs.Judge.{allowedOf, decodedOf, judgedOf}
+use Rattle.board.specs.Step.{stepOf, stepFile}
 
 module _ (c : Chain) (file : List ℕ) where
   -- a decision that refuses changes nothing
@@ -116,25 +116,19 @@ module _ (c : Chain) (file : List ℕ) where
       if-quiet (not (fittedB (slotPack (c .packs) slot))) _ _ (λ h. (refl, refl))
       (if-quiet (fixedChange (slotPack (c .packs) slot) which) _ _ (λ h. (refl, refl)) (λ h. absurd (omega arith)))
 
-  abbrev Left : Stepped → List ℕ → Type 0
-  Left r after = 20 ≤ numberOf (r .answer) → (r .chain ≡ c) × (after ≡ file)
+  allowed : (e : Event) → Quiet (allowedOf c (length file) e)
+  unfolding allowedOf applied changedOf
+  allowed e =
+      if-quiet (not (soundB c)) _ _ (λ h. (refl, refl))
+      (if-quiet (not (eqb (length file) (c .length .0))) _ _ (λ h. (refl, refl)) (decision-quiet e))
 
-  if-left : (b : Bool) (x y : Stepped) (u v : List ℕ) → Left x u → Left y v → Left (if b then x else y) (if b then u else v)
-  if-left true x y u v p q = p
-  if-left false x y u v p q = q
-
-  gone : (e : Event) → Left (goOf e c file) (goFile e c file)
-  unfolding goOf goFile
-  gone e =
-      if-left (not (soundB c)) _ _ _ _ (λ h. (refl, refl))
-      (if-left (not (eqb (length file) (c .length .0))) _ _ _ _ (λ h. (refl, refl)) (decision-quiet e))
-
-  decoded : (d : Decoded) (kind a b : ℕ) → decodeOf kind a b ≡ d → Left (stepOf kind a b c file) (stepFile kind a b c file)
-  unfolding stepOf stepFile
-  decoded (Is e) kind a b q = rw q (gone e)
-  decoded Unknown kind a b q = rw q (λ h. (refl, refl))
-  decoded Range kind a b q = rw q (λ h. (refl, refl))
+  decoded : (d : Decoded) → Quiet (decodedOf c (length file) d)
+  unfolding applied changedOf
+  decoded (Is e) = allowed e
+  decoded Unknown = λ h. (refl, refl)
+  decoded Range = λ h. (refl, refl)
 
   -- demand 1: whatever the numbers, the record and the file
   pub refused-leaves : (kind a b : ℕ) → 20 ≤ numberOf (stepOf kind a b c file .answer) → (stepOf kind a b c file .chain ≡ c) × (stepFile kind a b c file ≡ file)
-  refused-leaves kind a b = decoded (decodeOf kind a b) kind a b refl
+  unfolding stepOf stepFile judgedOf
+  refused-leaves kind a b = decoded (decodeOf kind a b)
