@@ -23,6 +23,10 @@ use Rattle.drive.specs.Time.{motorAfter, passBody}
 use Rattle.drive.specs.Limits.{armTests, motorB}
 use Rattle.acts.proofs.Limits.{Parts, latch-keeps}
 
+-- "2 latches bit 4, loses the position and ends reading"
+abbrev pub lostBody : Body → Body
+lostBody b = with-reading 0 (losePosition (latchBit 4 b))
+
 pub fresh-limits : (p : Profile) → validB p ≡ true → Parts p (freshBody p)
 unfolding validB
 fresh-limits p v =
@@ -46,8 +50,8 @@ module _ (p : Profile) (b : Body) (q : Parts p b) where
   pub writing-limits : (n : ℕ) → leb n 1 ≡ true → Parts p (with-writing n b)
   writing-limits n h = search needs
 
-  lost-limits : Parts p (losePosition b)
-  lost-limits =
+  unknown-limits : Parts p (losePosition b)
+  unknown-limits =
       let e = each (armTests p (b .arm)) (q .arm) in
       let arm = join _ _ (join _ _ (e .0) (e .1 .0)) refl in
       search needs
@@ -66,12 +70,9 @@ module _ (p : Profile) (b : Body) (q : Parts p b) where
       (λ e. search needs)
       (λ e. search needs)
 
-  pub condition-limits : (which : ℕ) → Parts p (conditionOf which b)
-  unfolding conditionOf
-  condition-limits which =
-      by-test (Parts p) (eqb which 1) _ _ (λ e. latch-limits 1 (omega arith) refl) λ e.
-      by-test (Parts p) (eqb which 2) _ _ (λ e. reading-limits p _ (lost-limits p _ (latch-limits 4 (omega arith) refl)) 0 refl) λ e.
-      latch-limits 0 (omega arith) refl
+  -- condition 2
+  pub lost-limits : Parts p (lostBody b)
+  lost-limits = reading-limits p _ (unknown-limits p _ (latch-limits 4 (omega arith) refl)) 0 refl
 
   pub pass-limits : (us : Micros) → Parts p (passBody us b)
   unfolding passBody motorAfter
@@ -80,7 +81,17 @@ module _ (p : Profile) (b : Body) (q : Parts p b) where
       let busy = b .timers .busy .0 in
       let head = b .timers .head .0 in
       let timers =
-          join _ _ (le-leb (busy - us .0) 30_000_000 (omega (arith, leb-true busy 30_000_000 (t .0))))
-          (le-leb (head - us .0) 60_000 (omega (arith, leb-true head 60_000 (t .1)))) in
+      join _ _ (le-leb (busy - us .0) 30_000_000 (omega (arith, leb-true busy 30_000_000 (t .0))))
+      (le-leb (head - us .0) 60_000 (omega (arith, leb-true head 60_000 (t .1)))) in
       let motor = motor-passes (b .motor) busy (us .0) _ _ _ refl refl refl (q .motor) in
       search needs
+
+-- what a head change leaves: the new head, no reading, writing as it was
+pub record Switched (h : Head) (b e : Body) : Type 0 where
+  pub head : e .head ≡ h
+  pub reading : e .reading ≡ 0
+  pub writing : e .writing ≡ b .writing
+
+pub switched-leaves : (p : Profile) (h : Head) (b : Body) → Switched h b (switchedOf p h b)
+unfolding switchedOf
+switched-leaves p h b = by-test (Switched h b) (ltb 15 (p .times .switch .0)) _ _ (λ e. search needs) (λ e. search needs)

@@ -4,3 +4,4 @@ pub mod Transfers
 pub mod Bodies
 pub mod Time
 pub mod Levels
+pub mod Keeps
