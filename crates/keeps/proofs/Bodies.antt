@@ -1,11 +1,11 @@
 -- Each rule keeps the limits of a drive's fields.
 use mathlib.Core.Path.{_≡_, refl}
-use mathlib.Core.Bool.{Bool, true, false, _&&_, _||_, not}
+use mathlib.Core.Bool.{Bool, true, false, _&&_}
 use Prim.Native.Nat.{ℕ, _-_, _^_, _≤_, _<_}
 use native.Mathlib.Omega.{arith}
 use lib.Dec.{ltb, leb, eqb}
 use borrow.Author.Needs.{needs}
-use borrow.Author.Tests.{ltb-true, ltb-false, leb-true, leb-false, not-true, eqb-true, eqb-false, le-leb, lt-ltb, ne-eqb}
+use borrow.Author.Tests.{ltb-false, leb-true, leb-false, not-true, eqb-false, le-leb, lt-ltb, ne-eqb}
 use Rattle.counts.specs.declared.Head.{Head}
 use Rattle.counts.specs.declared.Micros.{Micros}
 use Rattle.counts.specs.Bytes.{bit}
@@ -17,7 +17,7 @@ use Rattle.trailer.specs.Valid.{fieldTests, validB}
 use Rattle.trailer.proofs.Facts.{ranges}
 use Rattle.drive.specs.declared.Body.{Body}
 use Rattle.drive.specs.State.{starting, up, with-reading, with-writing, freshBody}
-use Rattle.drive.specs.Faults.{latchBit, losePosition, conditionOf}
+use Rattle.drive.specs.Faults.{latchBit, losePosition}
 use Rattle.drive.specs.Heads.{switchedOf}
 use Rattle.drive.specs.Time.{motorAfter, passBody}
 use Rattle.drive.specs.Limits.{armTests, motorB}
