@@ -161,21 +161,31 @@ fn stopped(f: Fed) -> Fed
     }
 }
 
-// Reads once.
+// Reads once, with nothing kept back: a host may wait for its answers before it goes on.
 fn turn(block: &mut [u8], out: &mut [u8], file: &mut [u8], f: Fed) -> Fed
     requires { ⌜ (length (now out) ≡ 65536) × (f .run .at ≤ 65536) ⌝ }
     ensures { λ q. ⌜ q .run .at ≤ 65536 ⌝ }
 {
+    let run = flushed(out, f.run);
+    let scan = f.scan;
+    let ready = Fed {
+        run,
+        scan,
+        more: f.more,
+    };
+    if !run.open {
+        return stopped(ready);
+    }
     let got = libc::read(STDIN_FILENO, block);
     if got < 0 {
         os::fail(b"standard input");
-        return stopped(f);
+        return stopped(ready);
     }
     if got == 0 {
-        return stopped(f);
+        return stopped(ready);
     }
     let n = io::count(got, block);
-    fed_all(&block[..n], out, file, f)
+    fed_all(&block[..n], out, file, ready)
 }
 
 // A proved loop has to end: it counts its turns down from a number that no run uses up.
