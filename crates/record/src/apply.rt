@@ -7,7 +7,6 @@ use drive::State;
 use drive::time;
 use pack::Pack;
 ghost use mathlib.Core.Path.{_≡_};
-ghost use Rattle.counts.specs.Slots.{mapWith};
 ghost use Rattle.record.specs.Apply.{putOf, passSlot, changedOf, applied};
 
 // The state of a slot put in place of what it was.
@@ -37,27 +36,33 @@ fn pass_slot(p: Pack, s: State, us: Micros) -> State
     r.state
 }
 
-fn pass_all(packs: [Pack; 7], states: [State; 7], us: Micros) -> [State; 7]
-    ensures { λ r. ⌜ r ≡ mapWith (passSlot us) packs states ⌝ }
-{
-    let mut out = states;
-    for i in 0..7 {
-        let p = packs[i];
-        let s = out[i];
-        let t = pass_slot(p, s, us);
-        out[i] = t;
-    }
-    out
-}
-
+// One array for every change, so that the record is copied once.
 fn changed(packs: [Pack; 7], states: [State; 7], change: Change) -> [State; 7]
     ensures { λ r. ⌜ r ≡ changedOf packs states change ⌝ }
 {
+    let mut out = states;
     match change {
-        Change::Nothing => states,
-        Change::One(slot, s) => put(states, slot, s),
-        Change::Two(slot, s, other, t) => put(put(states, slot, s), other, t),
-        Change::Pass(us) => pass_all(packs, states, us),
+        Change::Nothing => out,
+        Change::One(at, s) => {
+            if at < 1 {
+                return out;
+            }
+            if at > 7 {
+                return out;
+            }
+            out[(at - 1) as usize] = s;
+            out
+        }
+        Change::Two(slot, s, other, t) => put(put(out, slot, s), other, t),
+        Change::Pass(us) => {
+            for i in 0..7 {
+                let p = packs[i];
+                let s = out[i];
+                let t = pass_slot(p, s, us);
+                out[i] = t;
+            }
+            out
+        }
     }
 }
 
