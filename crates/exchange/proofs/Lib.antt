@@ -4,3 +4,4 @@ pub mod Waiting
 pub mod Sent
 pub mod Fetched
 pub mod Exchange
+pub mod Like

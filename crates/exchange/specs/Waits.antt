@@ -69,3 +69,19 @@ pub record InTime (w : Sending) : Type 0 where
   pub bits : BitsFit (w .more)
   pub wanted : length (w .gaps) ≡ 17
   pub gaps : GapsFit (w .gaps)
+
+-- what holds of each wait of a sending
+abbrev pub Each : (ℕ → Type 0) → List ℕ → Type 0
+Each P [] = Unit
+Each P (w ∷ ws) = P w × Each P ws
+
+abbrev pub EachOfBits : (ℕ → Type 0) → List Bit → Type 0
+EachOfBits P [] = Unit
+EachOfBits P (x ∷ xs) = Each P (x .before) × Each P (x .settle) × Each P (x .up) × EachOfBits P xs
+
+abbrev pub EachOfGaps : (ℕ → Type 0) → List Gap → Type 0
+EachOfGaps P [] = Unit
+EachOfGaps P (g ∷ gs) = Each P (g .before) × Each P (g .early) × Each P (g .late) × EachOfGaps P gs
+
+abbrev pub EachWait : (ℕ → Type 0) → Sending → Type 0
+EachWait P w = EachOfBits P (w .first ∷ w .more) × EachOfGaps P (w .gaps)
