@@ -90,3 +90,22 @@ module _ {S T : Type 0} (C : Cable S) (D : Cable T) (Like : S → T → Type 0) 
   pub exchanges-like : (w : Sending) (s : S) (t : T) → EachWait P w → Like s t → Ended Like (exchanges C w s) (exchanges D w t)
   exchanges-like w s t f l =
       goes-like w _ _ f (raises-like (w .first) (going s []) (going t []) (f .0 .0) (f .0 .1) (l, refl))
+
+-- where nothing is asked of the waits
+abbrev pub Any : ℕ → Type 0
+Any us = Unit
+
+any-each : (ws : List ℕ) → Each Any ws
+any-each [] = tt
+any-each (w ∷ ws) = (tt, any-each ws)
+
+any-bits : (xs : List Bit) → EachOfBits Any xs
+any-bits [] = tt
+any-bits (x ∷ xs) = (any-each (x .before), any-each (x .settle), any-each (x .up), any-bits xs)
+
+any-gaps : (gs : List Gap) → EachOfGaps Any gs
+any-gaps [] = tt
+any-gaps (g ∷ gs) = (any-each (g .before), any-each (g .early), any-each (g .late), any-gaps gs)
+
+pub any-waits : (w : Sending) → EachWait Any w
+any-waits w = (any-bits (w .first ∷ w .more), any-gaps (w .gaps))

@@ -80,7 +80,7 @@ module _ (p : Profile) (b : Body) (q : Parts p b) where
       let busy = b .timers .busy .0 in
       let head = b .timers .head .0 in
       let timers =
-          join _ _ (le-leb (busy - us .0) 30_000_000 (omega (arith, leb-true busy 30_000_000 (t .0))))
-          (le-leb (head - us .0) 60_000 (omega (arith, leb-true head 60_000 (t .1)))) in
+      join _ _ (le-leb (busy - us .0) 30_000_000 (omega (arith, leb-true busy 30_000_000 (t .0))))
+      (le-leb (head - us .0) 60_000 (omega (arith, leb-true head 60_000 (t .1)))) in
       let motor = motor-passes (b .motor) busy (us .0) _ _ _ refl refl refl (q .motor) in
       search needs

@@ -64,21 +64,22 @@ module _ (p : Profile) (l : Lines) (s : State) (f : Selected p l s) where
 
   -- command complete is false
   pub not-complete : completeB s ≡ false → (s .body .writing ≡ 0) × (s .body .reading ≡ 0)
-  not-complete h =
-      (no-writing (λ w. false≢true (cc (usable p s (w .usable) .complete))),
-      no-reading (λ r. false≢true (cc (usable p s (r .usable) .complete))))
+  not-complete h = (
+    no-writing (λ w. false≢true (cc (usable p s (w .usable) .complete))),
+    no-reading (λ r. false≢true (cc (usable p s (r .usable) .complete))),
+  )
 
   -- what goes on as it was
   pub still-writes : (m : Lines) (r : State) → r .body .writing ≡ s .body .writing → (Writes p l s → Writes p m r) → writingB p m r ≡ true
   still-writes m r same on = cases (eqb (s .body .writing) 0) refl
     where
-    cases : (z : Bool) → eqb (s .body .writing) 0 ≡ z → writingB p m r ≡ true
-    cases true z = not-writing p m r (same ∙ eqb-true _ _ z)
-    cases false z = may-write p m r (on (writes p l s (f .writing) (set (s .body .writing) (limits p (s .body) (f .limits) .writing) z)))
+      cases : (z : Bool) → eqb (s .body .writing) 0 ≡ z → writingB p m r ≡ true
+      cases true z = not-writing p m r (same ∙ eqb-true _ _ z)
+      cases false z = may-write p m r (on (writes p l s (f .writing) (set (s .body .writing) (limits p (s .body) (f .limits) .writing) z)))
 
   pub still-reads : (m : Lines) (r : State) → r .body .reading ≡ s .body .reading → (Reads p l s → Reads p m r) → readingB p m r ≡ true
   still-reads m r same on = cases (eqb (s .body .reading) 0) refl
     where
-    cases : (z : Bool) → eqb (s .body .reading) 0 ≡ z → readingB p m r ≡ true
-    cases true z = not-reading p m r (same ∙ eqb-true _ _ z)
-    cases false z = may-read p m r (on (reads p l s (f .reading) (set (s .body .reading) (limits p (s .body) (f .limits) .reading) z)))
+      cases : (z : Bool) → eqb (s .body .reading) 0 ≡ z → readingB p m r ≡ true
+      cases true z = not-reading p m r (same ∙ eqb-true _ _ z)
+      cases false z = may-read p m r (on (reads p l s (f .reading) (set (s .body .reading) (limits p (s .body) (f .limits) .reading) z)))

@@ -29,18 +29,18 @@ motor-rests : (motor : ℕ) (busy us : Micros) → busy .0 ≡ 0 → motorAfter 
 unfolding motorAfter
 motor-rests motor busy us h = rw h (idle (eqb motor starting))
   where
-  idle : (s : Bool) → (if s && false && leb 0 (us .0) then up else motor) ≡ motor
-  idle true = refl
-  idle false = refl
+    idle : (s : Bool) → (if s && false && leb 0 (us .0) then up else motor) ≡ motor
+    idle true = refl
+    idle false = refl
 
 motor-waits : (motor : ℕ) (busy us : Micros) → us .0 < busy .0 → motorAfter motor busy us ≡ motor
 unfolding motorAfter
 motor-waits motor busy us h = rw (lt-leb (busy .0) (us .0) h) (late (eqb motor starting) (ltb 0 (busy .0)))
   where
-  late : (s r : Bool) → (if s && r && false then up else motor) ≡ motor
-  late true true = refl
-  late true false = refl
-  late false r = refl
+    late : (s r : Bool) → (if s && r && false then up else motor) ≡ motor
+    late true true = refl
+    late true false = refl
+    late false r = refl
 
 motor-up : (motor : ℕ) (busy us : Micros) → eqb motor starting ≡ true → 0 < busy .0 → busy .0 ≤ us .0 → motorAfter motor busy us ≡ up
 unfolding motorAfter
@@ -64,9 +64,9 @@ complete-stays us s h =
     let e = both (not (openB (s .transfer))) (calmB (s .body)) h in
     rw (calm-stays us (s .body) (e .1), closed (eqb (s .transfer .way) 0) (e .0))
   where
-  closed : (z : Bool) → not (not z) ≡ true → z ≡ true
-  closed true k = refl
-  closed false k = k
+    closed : (z : Bool) → not (not z) ≡ true → z ≡ true
+    closed true k = refl
+    closed false k = k
 
 -- a drive with no transfer open, both timers run out, is complete
 pub complete-after : (us : Micros) (s : State) → openB (s .transfer) ≡ false → s .body .timers .busy .0 ≤ us .0 → s .body .timers .head .0 ≤ us .0
@@ -84,24 +84,24 @@ motor-twice : (m : ℕ) (busy a b : Micros) → motorAfter (motorAfter m busy a)
 motor-twice m busy a b =
     cases (eqb m starting) (ltb 0 (busy .0)) (leb (busy .0) (a .0)) (leb (busy .0) (a .0 + b .0)) refl refl refl refl
   where
-  cases : (s r e k : Bool) → eqb m starting ≡ s → ltb 0 (busy .0) ≡ r → leb (busy .0) (a .0) ≡ e → leb (busy .0) (a .0 + b .0) ≡ k
-      → motorAfter (motorAfter m busy a) (lessOf busy a) b ≡ motorAfter m busy (sumOf a b)
-  cases false r e k s _ _ _ = rw (motor-same m busy a s) (motor-same m (lessOf busy a) b s ∙ sym (motor-same m busy (sumOf a b) s))
-  cases true false e k s r _ _ =
-      let z : busy .0 ≡ 0 = omega (arith, ltb-false 0 (busy .0) r) in
-      rw (motor-rests m busy a z) (motor-rests m (lessOf busy a) b (omega arith) ∙ sym (motor-rests m busy (sumOf a b) z))
-  cases true true true k s r e _ =
-      let some = ltb-true 0 (busy .0) r in
-      let h = leb-true (busy .0) (a .0) e in
-      rw (motor-up m busy a s some h) (motor-same up (lessOf busy a) b refl ∙ sym (motor-up m busy (sumOf a b) s some (omega arith)))
-  cases true true false true s r e k =
-      let late = leb-false (busy .0) (a .0) e in
-      let h = leb-true (busy .0) (a .0 + b .0) k in
-      rw (motor-waits m busy a late) (motor-up m (lessOf busy a) b s (omega arith) (omega arith) ∙ sym (motor-up m busy (sumOf a b) s (omega arith) h))
-  cases true true false false s r e k =
-      let late = leb-false (busy .0) (a .0) e in
-      let later = leb-false (busy .0) (a .0 + b .0) k in
-      rw (motor-waits m busy a late) (motor-waits m (lessOf busy a) b (omega arith) ∙ sym (motor-waits m busy (sumOf a b) later))
+    cases : (s r e k : Bool) → eqb m starting ≡ s → ltb 0 (busy .0) ≡ r → leb (busy .0) (a .0) ≡ e → leb (busy .0) (a .0 + b .0) ≡ k
+        → motorAfter (motorAfter m busy a) (lessOf busy a) b ≡ motorAfter m busy (sumOf a b)
+    cases false r e k s _ _ _ = rw (motor-same m busy a s) (motor-same m (lessOf busy a) b s ∙ sym (motor-same m busy (sumOf a b) s))
+    cases true false e k s r _ _ =
+        let z : busy .0 ≡ 0 = omega (arith, ltb-false 0 (busy .0) r) in
+        rw (motor-rests m busy a z) (motor-rests m (lessOf busy a) b (omega arith) ∙ sym (motor-rests m busy (sumOf a b) z))
+    cases true true true k s r e _ =
+        let some = ltb-true 0 (busy .0) r in
+        let h = leb-true (busy .0) (a .0) e in
+        rw (motor-up m busy a s some h) (motor-same up (lessOf busy a) b refl ∙ sym (motor-up m busy (sumOf a b) s some (omega arith)))
+    cases true true false true s r e k =
+        let late = leb-false (busy .0) (a .0) e in
+        let h = leb-true (busy .0) (a .0 + b .0) k in
+        rw (motor-waits m busy a late) (motor-up m (lessOf busy a) b s (omega arith) (omega arith) ∙ sym (motor-up m busy (sumOf a b) s (omega arith) h))
+    cases true true false false s r e k =
+        let late = leb-false (busy .0) (a .0) e in
+        let later = leb-false (busy .0) (a .0 + b .0) k in
+        rw (motor-waits m busy a late) (motor-waits m (lessOf busy a) b (omega arith) ∙ sym (motor-waits m busy (sumOf a b) later))
 
 pub body-twice : (a b : Micros) (d : Body) → passBody b (passBody a d) ≡ passBody (sumOf a b) d
 unfolding passBody
@@ -110,7 +110,7 @@ body-twice a b d =
     let head : d .timers .head .0 - a .0 - b .0 ≡ d .timers .head .0 - (a .0 + b .0) = omega arith in
     rw (motor-twice (d .motor) (d .timers .busy) a b, busy, head)
 
-latch-later : (us : Micros) (value : ℕ) (d : Body) → passBody us (latchOf value d) ≡ latchOf value (passBody us d)
+pub latch-later : (us : Micros) (value : ℕ) (d : Body) → passBody us (latchOf value d) ≡ latchOf value (passBody us d)
 unfolding passBody latchOf
 latch-later us value d = refl
 
@@ -180,7 +180,7 @@ motor-zero : (motor : ℕ) (busy : Micros) (r : Bool) → ltb 0 (busy .0) ≡ r 
 motor-zero motor busy true r = motor-waits motor busy none (ltb-true 0 (busy .0) r)
 motor-zero motor busy false r = motor-rests motor busy none (omega (arith, ltb-false 0 (busy .0) r))
 
-body-zero : (d : Body) → passBody none d ≡ d
+pub body-zero : (d : Body) → passBody none d ≡ d
 unfolding passBody
 body-zero d = rw (motor-zero (d .motor) (d .timers .busy) _ refl, sub-zero (d .timers .busy .0), sub-zero (d .timers .head .0))
 
@@ -188,6 +188,6 @@ body-zero d = rw (motor-zero (d .motor) (d .timers .busy) _ refl, sub-zero (d .t
 pub pass-zero : (s : State) → s .transfer .waiting .0 ≤ patience → passOf none s .state ≡ s
 pass-zero s h = cases (eqb (s .transfer .way) 0) refl
   where
-  cases : (z : Bool) → eqb (s .transfer .way) 0 ≡ z → passOf none s .state ≡ s
-  cases true z = pass-closed none s z ∙ ap (λ (d : Body). stateOf d (s .transfer)) (body-zero (s .body))
-  cases false z = pass-open none s z (omega arith) ∙ ap₂ stateOf (body-zero (s .body)) (rw add-zero)
+    cases : (z : Bool) → eqb (s .transfer .way) 0 ≡ z → passOf none s .state ≡ s
+    cases true z = pass-closed none s z ∙ ap (λ (d : Body). stateOf d (s .transfer)) (body-zero (s .body))
+    cases false z = pass-open none s z (omega arith) ∙ ap₂ stateOf (body-zero (s .body)) (rw add-zero)

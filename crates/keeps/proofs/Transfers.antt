@@ -63,14 +63,25 @@ takes request t h =
 pub from-takes : (request : ℕ) (t : Transfer) → Taking request t → takingB request t ≡ true
 unfolding takingB
 from-takes request t f =
-    all (takingTests request t)
-    (le-leb _ _ (f .whole),
-    (le-leb _ _ (f .waiting),
-    (eq-eqb _ _ (f .acknowledge),
-    (le-leb _ _ (f .some),
-    (le-leb _ _ (f .most),
-    (eq-eqb _ _ (f .bits),
-    (eq-eqb _ _ (f .response), tt)))))))
+    all (takingTests request t) (
+      le-leb _ _ (f .whole),
+      (
+        le-leb _ _ (f .waiting),
+        (
+          eq-eqb _ _ (f .acknowledge),
+          (
+            le-leb _ _ (f .some),
+            (
+              le-leb _ _ (f .most),
+              (
+                eq-eqb _ _ (f .bits),
+                (eq-eqb _ _ (f .response), tt),
+              ),
+            ),
+          ),
+        ),
+      ),
+    )
 
 -- a response being given
 pub record Giving (request : ℕ) (t : Transfer) : Type 0 where
@@ -95,13 +106,22 @@ gives request t h =
 
 pub from-gives : (request : ℕ) (t : Transfer) → Giving request t → respondingB request t ≡ true
 from-gives request t f =
-    all (respondingTests request t)
-    (le-leb _ _ (f .waiting),
-    (eq-eqb _ _ (f .acknowledge),
-    (le-leb _ _ (f .some),
-    (le-leb _ _ (f .most),
-    (eq-eqb _ _ (f .bits),
-    (lt-ltb _ _ (f .response), tt))))))
+    all (respondingTests request t) (
+      le-leb _ _ (f .waiting),
+      (
+        eq-eqb _ _ (f .acknowledge),
+        (
+          le-leb _ _ (f .some),
+          (
+            le-leb _ _ (f .most),
+            (
+              eq-eqb _ _ (f .bits),
+              (lt-ltb _ _ (f .response), tt),
+            ),
+          ),
+        ),
+      ),
+    )
 
 pub idle-left : (request : ℕ) (t : Transfer) → t .way ≡ 0 → idleB t ≡ true → leftB request t ≡ true
 unfolding leftB
@@ -125,12 +145,12 @@ by-way P request t h none taken given =
     let b = eqb (t .way) responding in
     elim-way n a b refl refl refl h
   where
-  elim-way : (n a b : Bool) → eqb (t .way) 0 ≡ n → eqb (t .way) taking ≡ a → eqb (t .way) responding ≡ b
-      → (if n then idleB t else if a then takingB request t else if b then respondingB request t else false) ≡ true → P
-  elim-way true a b en ea eb k = none (eqb-true _ _ en) k
-  elim-way false true b en ea eb k = taken (eqb-true _ _ ea) (takes request t k)
-  elim-way false false true en ea eb k = given (eqb-true _ _ eb) (gives request t k)
-  elim-way false false false en ea eb k = absurd (false≢true k)
+    elim-way : (n a b : Bool) → eqb (t .way) 0 ≡ n → eqb (t .way) taking ≡ a → eqb (t .way) responding ≡ b
+        → (if n then idleB t else if a then takingB request t else if b then respondingB request t else false) ≡ true → P
+    elim-way true a b en ea eb k = none (eqb-true _ _ en) k
+    elim-way false true b en ea eb k = taken (eqb-true _ _ ea) (takes request t k)
+    elim-way false false true en ea eb k = given (eqb-true _ _ eb) (gives request t k)
+    elim-way false false false en ea eb k = absurd (false≢true k)
 
 doubled : (k : ℕ) → 2 ^ (k + 1) ≡ 2 ^ k + 2 ^ k
 doubled k = rw (add-one k) (two-pow-succ k)

@@ -1,0 +1,3 @@
+pub mod Drive
+pub mod Decided
+pub mod AtOnce
