@@ -31,7 +31,7 @@ use Rattle.chain.specs.Sound.{driveB, soundB}
 use Rattle.chain.proofs.Facts.{sound, chosen}
 use Rattle.demand.proofs.Slots.{map-still, as-long}
 
-slot-of : (k : ℕ) (packs : List Pack) → slotPack packs k .fitted ≡ 1 → slotB k ≡ true
+pub slot-of : (k : ℕ) (packs : List Pack) → slotPack packs k .fitted ≡ 1 → slotB k ≡ true
 unfolding slotPack
 slot-of k packs f = go (slotB k) refl f
   where
@@ -47,7 +47,7 @@ pub state-there : (k : ℕ) (states : List State) → slotB k ≡ true → slotS
 unfolding slotState
 state-there k states b = rw b
 
-inside : (packs : List Pack) (i : ℕ) → getD packs i noPack .fitted ≡ 1 → i < length packs
+pub inside : (packs : List Pack) (i : ℕ) → getD packs i noPack .fitted ≡ 1 → i < length packs
 inside [] i f = absurd (omega arith)
 inside (p ∷ packs) zero f = omega arith
 inside (p ∷ packs) (suc i) f = let r : i < length packs = inside packs i f in omega arith

@@ -5,3 +5,6 @@ pub mod Here
 pub mod Around
 pub mod Plain
 pub mod Demand
+pub mod Time
+pub mod Step
+pub mod Response

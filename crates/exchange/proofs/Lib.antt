@@ -5,3 +5,4 @@ pub mod Sent
 pub mod Fetched
 pub mod Exchange
 pub mod Like
+pub mod Bits
