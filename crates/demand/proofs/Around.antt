@@ -1,38 +1,35 @@
 -- The chain around its selected drive: a signal is what the unit makes of it, and the time that passes on the others.
-use Prim.Native.Nat.{ℕ, _+_, _-_, _<_}
+use Prim.Native.Nat.{ℕ, _+_, _-_}
 use mathlib.Core.Path.{_≡_, refl, sym, ap, ap₂, _∙_}
-use mathlib.Core.Bool.{Bool, true, false, _||_}
+use mathlib.Core.Bool.{Bool, true, false}
 use mathlib.Core.List.{List}
 use lib.Dec.{eqb}
 use lib.ListN.{length, getD, set}
 use lib.Seq.{getD-set-same}
 use borrow.Author.Tests.{eqb-true, eq-eqb}
-use Rattle.counts.specs.Choice.{if_then_else_}
 use Rattle.counts.specs.Slots.{mapWith}
 use Rattle.handshake.specs.Transfer.{statusLine}
-use Rattle.pack.specs.declared.Pack.{Pack}
 use Rattle.pack.specs.Packs.{noPack}
 use Rattle.drive.specs.declared.Body.{Body}
 use Rattle.drive.specs.declared.State.{State}
 use Rattle.drive.specs.State.{blankState, stateOf}
-use Rattle.drive.specs.Time as time
 use Rattle.unit.specs.declared.Lines.{Lines}
-use Rattle.unit.specs.Request.{gatedB, requestRises, requestFalls}
+use Rattle.unit.specs.Request.{gatedB}
 use Rattle.event.specs.Answer.{numberOf}
 use Rattle.chain.specs.declared.Chain.{Chain}
 use Rattle.chain.specs.declared.Decision.{Decision}
 use Rattle.chain.specs.declared.record.Seen.{Seen}
-use Rattle.chain.specs.Record.{slotB, slotState, lookOf}
-use Rattle.chain.specs.Decision.{outcomeAnswer, heardOf}
+use Rattle.chain.specs.Record.{slotState, lookOf}
+use Rattle.chain.specs.Decision.{heardOf}
 use Rattle.chain.specs.Signals.{with-command, with-request, dataOf, requestOf}
 use Rattle.chain.specs.Deeds.{saidOf, fileAfter}
 use Rattle.chain.specs.Decide as chain
 use Rattle.chain.specs.Apply.{putOf, passSlot, changedOf, applied}
-use Rattle.exchange.specs.Host.{Signal, level, ask, micros, Cable}
-use Rattle.exchange.specs.Unit.{Met, Wired, wired, risen, fallen, passed, asked, after, answer, unit}
-use Rattle.exchange.proofs.Like.{Alike, Any}
+use Rattle.exchange.specs.Host.{Signal, level, ask, micros}
+use Rattle.exchange.specs.Unit.{Met, Wired, risen, fallen, passed, asked, after, answer, unit}
+use Rattle.exchange.proofs.Like.{Alike}
 use Rattle.demand.specs.Drive.{drive}
-use Rattle.demand.specs.Decided.{Lent, eventOf, driveOf, decided}
+use Rattle.demand.specs.Decided.{Lent, decided}
 use Rattle.demand.proofs.Slots.{set-set, map-length, map-set, map-map}
 use Rattle.demand.proofs.Meets.{stood, rise-state, rise-answer, fall-state, fall-answer, pass-state, pass-answer, slot-pass-pass}
 use Rattle.demand.proofs.Here.{Here, state-there}

@@ -4,8 +4,7 @@ use native.Mathlib.Omega.{arith}
 use mathlib.Core.Path.{_≡_, refl, sym, ap, ap₂, _∙_}
 use mathlib.Core.Bool.{Bool, true, false}
 use mathlib.Core.List.{List, [], _∷_}
-use mathlib.Core.Option.{Option, none, some}
-use lib.Dec.{eqb}
+use mathlib.Core.Option.{none, some}
 use lib.ListN.{length, getD, set}
 use borrow.Author.Tests.{eq-eqb}
 use Rattle.counts.specs.Choice.{if_then_else_}
@@ -35,9 +34,9 @@ use Rattle.exchange.specs.Host.{Sending, high, Exchanged, exchanges}
 use Rattle.exchange.specs.Waits.{wordOf, lastOf, lowTime, sentTime, fetchTime, lowCount, sentCount, fetchCount, InTime, bitsOf}
 use Rattle.exchange.specs.Unit.{Wired, unit}
 use Rattle.exchange.specs.AtOnce as alone
-use Rattle.exchange.proofs.Like.{Ended, exchanges-like, any-waits}
+use Rattle.exchange.proofs.Like.{exchanges-like, any-waits}
 use Rattle.exchange.proofs.Exchange.{at-once}
-use Rattle.demand.specs.Drive.{toldOf, faultB, carriedBy, drive}
+use Rattle.demand.specs.Drive.{toldOf, carriedBy, drive}
 use Rattle.demand.specs.Decided.{Lent, driveOf, decided}
 use Rattle.demand.specs.AtOnce.{Resting, passed, plain, given, fallAnswer, risen, refused, carried, atOnce}
 use Rattle.demand.proofs.DriveLaws.{drive-laws, carry-answer}
@@ -93,13 +92,21 @@ module _ (c : Chain) (file : List ℕ) (r : Resting c) where
       ∙ map-at (passSlot (record { 0 = us })) (c .packs) (c .states) k noPack blankState (h .packs) (h .states)
       ∙ rw (eq-eqb _ 1 (h .fitted)) (ap (λ (s : State). time.passOf (record { 0 = us }) s .state) (sym in-slot ∙ at-rest) ∙ rest-pass us b)
 
+  -- every drive has its time, and nothing else of the record moves
+  abbrev with-slots : List State → Chain
+  with-slots states = record { packs = c .packs; states = states; lines = c .lines; length = c .length }
+
+  all-passed : (us : ℕ) → passed us c ≡ with-slots (slots c file us)
+  unfolding applied changedOf chain.decideOf chain.passOf
+  all-passed us = refl
+
   drive-passed : (us : ℕ) → driveOf (passed us c) ≡ stateOf (time.passBody (record { 0 = us }) b) noTransfer
-  unfolding lookOf applied changedOf chain.decideOf chain.passOf
-  drive-passed us = slot-passed us
+  unfolding lookOf
+  drive-passed us = ap driveOf (all-passed us) ∙ slot-passed us
 
   same-profile : (us : ℕ) → lookOf (passed us c) .profile ≡ p
-  unfolding lookOf applied chain.decideOf chain.passOf
-  same-profile us = refl
+  unfolding lookOf
+  same-profile us = ap (λ (x : Chain). lookOf x .profile) (all-passed us)
 
   module _ (us n : ℕ) where
     abbrev b₁ : Body

@@ -2,7 +2,6 @@
 use Prim.Native.Nat.{ℕ}
 use native.Mathlib.Omega.{arith}
 use mathlib.Core.Path.{_≡_, refl, ap}
-use mathlib.Core.Bool.{true}
 use mathlib.Core.Option.{some}
 use Rattle.counts.specs.Choice.{if_then_else_}
 use Rattle.trailer.specs.declared.Profile.{Profile}

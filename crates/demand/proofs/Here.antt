@@ -2,7 +2,7 @@
 use Prim.Native.Nat.{ℕ, zero, suc, _-_, _≤_, _<_}
 use native.Mathlib.Omega.{arith}
 use mathlib.Core.Path.{_≡_, refl, sym, ap, _∙_}
-use mathlib.Core.Bool.{Bool, true, false, not, false≢true}
+use mathlib.Core.Bool.{Bool, true, false}
 use mathlib.Core.List.{List, [], _∷_}
 use lib.Dec.{eqb}
 use lib.ListN.{length, getD}
@@ -28,7 +28,7 @@ use Rattle.chain.specs.declared.Chain.{Chain}
 use Rattle.chain.specs.Record.{slotB, slotPack, slotState, lookOf}
 use Rattle.chain.specs.Apply.{passSlot}
 use Rattle.chain.specs.Sound.{driveB, soundB}
-use Rattle.chain.proofs.Facts.{sound, chosen}
+use Rattle.chain.proofs.Facts.{sound}
 use Rattle.demand.proofs.Slots.{map-still, as-long}
 
 pub slot-of : (k : ℕ) (packs : List Pack) → slotPack packs k .fitted ≡ 1 → slotB k ≡ true

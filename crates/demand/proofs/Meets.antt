@@ -1,12 +1,10 @@
 -- A drive meets edges and waits as the unit does that it is.
 use Prim.Native.Nat.{ℕ, _+_}
 use mathlib.Core.Path.{_≡_, refl, ap}
-use mathlib.Core.Bool.{Bool, true, false, _||_}
+use mathlib.Core.Bool.{Bool, true, false}
 use lib.Dec.{eqb}
-use Rattle.counts.specs.declared.Micros.{Micros}
 use Rattle.counts.specs.Choice.{if_then_else_}
 use Rattle.trailer.specs.declared.Profile.{Profile}
-use Rattle.handshake.specs.declared.Transfer.{Transfer}
 use Rattle.handshake.specs.declared.Edge.{Edge}
 use Rattle.handshake.specs.declared.Edge.the-variants.{Keep, Drop, Carry}
 use Rattle.handshake.specs.Edges.{riseOf, fallOf, waitOf}

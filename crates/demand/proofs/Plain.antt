@@ -2,7 +2,7 @@
 use Prim.Native.Nat.{ℕ, _+_, _-_, _≤_}
 use native.Mathlib.Omega.{arith}
 use mathlib.Core.Path.{_≡_, refl, sym, _∙_}
-use mathlib.Core.Bool.{Bool, true, false, _||_, not}
+use mathlib.Core.Bool.{Bool, true, false}
 use mathlib.Core.List.{List, [], _∷_}
 use lib.Dec.{eqb}
 use borrow.Author.Tests.{eqb-true, eqb-false}
@@ -19,11 +19,10 @@ use Rattle.drive.proofs.Facts.{limits}
 use Rattle.unit.specs.declared.Lines.{Lines}
 use Rattle.unit.proofs.Facts.{Selected, writes, reads}
 use Rattle.word.specs.declared.Told.the-variants.{Nothing}
-use Rattle.word.specs.declared.Answered.{Answered}
 use Rattle.word.specs.Rules.{answered, carryOf, plainOf}
 use Rattle.keeps.proofs.Time.{calm-stays, body-twice}
 use Rattle.exchange.specs.Host.{Bit}
-use Rattle.exchange.specs.Waits.{sum, lowTime, sentTime}
+use Rattle.exchange.specs.Waits.{lowTime, sentTime}
 
 module _ (p : Profile) (n : ℕ) (b : Body) (reading : b .reading ≡ 0) (writing : b .writing ≡ 0) where
   pub plain-carries : calmB b ≡ true → plainOf p (stateOf b noTransfer) n ≡ answered (carryOf p b n .told) (stateOf (carryOf p b n .body) noTransfer)

@@ -1,15 +1,12 @@
 -- The same through the board's one function, so long as every number is one that an event can have.
-use Prim.Native.Nat.{ℕ, _+_, _≤_}
+use Prim.Native.Nat.{ℕ, _≤_}
 use native.Mathlib.Omega.{arith}
-use mathlib.Core.Path.{_≡_, refl, sym, ap, ap₂, _∙_}
-use mathlib.Core.Bool.{Bool, true, false, not}
+use mathlib.Core.Path.{_≡_, refl, sym, ap, _∙_}
+use mathlib.Core.Bool.{Bool, true, false}
 use mathlib.Core.List.{List, [], _∷_}
-use lib.Dec.{leb, eqb}
-use lib.ListN.{length, set, length-set}
+use lib.ListN.{length, length-set}
 use borrow.Author.Tests.{le-leb, eq-eqb}
-use Rattle.counts.specs.Choice.{if_then_else_}
 use Rattle.handshake.specs.Transfer.{patience}
-use Rattle.event.specs.declared.Event.{Event}
 use Rattle.event.specs.declared.Decoded.{Decoded}
 use Rattle.event.specs.declared.Decoded.the-variants.{Is}
 use Rattle.event.specs.Decode.{ranged, lineOf, rowOf, decodeOf}
@@ -18,14 +15,13 @@ use Rattle.chain.specs.declared.Chain.{Chain}
 use Rattle.chain.specs.declared.Deed.{Deed}
 use Rattle.chain.specs.declared.Deed.the-variants.{Say, Read, Write}
 use Rattle.chain.specs.Deeds.{fileAfter}
-use Rattle.chain.specs.Decide.{decideOf}
 use Rattle.chain.specs.Apply.{applied}
 use Rattle.chain.specs.Sound.{soundB}
 use Rattle.board.specs.declared.Stepped.{Stepped}
 use Rattle.board.specs.Step.{performed, goOf, goFile, decodedOf, decodedFile, stepOf, stepFile}
 use Rattle.exchange.specs.Host.{Signal, level, ask, micros, Bit, Gap, Sending, high, exchanges}
-use Rattle.exchange.specs.Waits.{sum, lowTime, BitsFit, GapsFit, InTime, Each, EachOfBits, EachOfGaps, EachWait}
-use Rattle.exchange.proofs.Like.{Alike, Ended, exchanges-like}
+use Rattle.exchange.specs.Waits.{sum, BitsFit, GapsFit, InTime, Each, EachOfBits, EachOfGaps, EachWait}
+use Rattle.exchange.proofs.Like.{Alike, exchanges-like}
 use Rattle.demand.specs.Decided.{Lent, eventOf, decisionOf, decided}
 use Rattle.demand.specs.AtOnce.{Resting, atOnce}
 use Rattle.demand.specs.Stepped.{kindOf, operandOf, InRange, steppedBy, stepped}
@@ -91,15 +87,18 @@ one-bit : (x : Bool) → high x ≤ 1
 one-bit true = omega arith
 one-bit false = omega arith
 
-module _ (kept : (c : Chain) (e : Signal) → InRange e → soundB c ≡ true → soundB (applied c (decideOf c (eventOf e))) ≡ true) where
+module _ (kept : (kind a b : ℕ) (c : Chain) (file : List ℕ) → soundB c ≡ true → soundB (stepOf kind a b c file .chain) ≡ true) where
   abbrev Same : Lent → Lent → Type 0
   Same s t = (s ≡ t) × (soundB (s .chain) ≡ true) × (length (s .file) ≡ s .chain .length .0)
+
+  still-sound : (e : Signal) (s : Lent) → InRange e → soundB (s .chain) ≡ true → length (s .file) ≡ s .chain .length .0 → soundB (decided .after e s .chain) ≡ true
+  still-sound e s f h l = ap (λ (x : Lent). soundB (x .chain)) (after-is e s f h l) ∙ kept (kindOf e) (operandOf e) 0 (s .chain) (s .file) h
 
   alike : Alike decided stepped Same InRange
   alike = record {
     levels = one-bit;
     edges = one-bit;
-    after = λ e s t f l. (after-is e s f (l .1) (l .2) ∙ ap (stepped .after e) (l .0), kept (s .chain) e f (l .1), still-long e s f (l .1) (l .2));
+    after = λ e s t f l. (after-is e s f (l .1) (l .2) ∙ ap (stepped .after e) (l .0), still-sound e s f (l .1) (l .2), still-long e s f (l .1) (l .2));
     answer = λ e s t f l. answer-is e s f (l .1) (l .2) ∙ ap (stepped .answer e) (l .0);
     acknowledged = λ s t l. ap (stepped .acknowledged) (l .0);
     responds = λ s t l. ap (stepped .responds) (l .0);

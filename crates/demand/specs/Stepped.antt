@@ -1,6 +1,5 @@
 -- The chain through the board's one function: each event as its three numbers, on the lent record and file.
 use Prim.Native.Nat.{ℕ, _≤_}
-use lib.Dec.{eqb}
 use Rattle.event.specs.Answer.{numberOf}
 use Rattle.board.specs.declared.Stepped.{Stepped}
 use Rattle.board.specs.Step.{stepOf, stepFile}

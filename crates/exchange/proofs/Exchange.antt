@@ -1,5 +1,5 @@
 -- Seventeen bits sent by the handshake, the response fetched, are the word given at once: for any unit that keeps the laws.
-use Prim.Native.Nat.{ℕ, suc, _+_, _^_, _<_}
+use Prim.Native.Nat.{ℕ, suc, _+_}
 use native.Mathlib.Omega.{arith}
 use mathlib.Core.Path.{_≡_, refl, ap, _∙_}
 use mathlib.Core.Bool.{Bool, true, false}
@@ -7,8 +7,8 @@ use mathlib.Core.List.{List, [], _∷_}
 use mathlib.Core.Option.{Option, none, some}
 use lib.ListN.{length}
 use Rattle.counts.specs.Choice.{if_then_else_}
-use Rattle.handshake.specs.Transfer.{wordBits, noTransfer}
-use Rattle.exchange.specs.Host.{level, ask, Sending, high, Going, Exchanged, going, exchanged, sends, waits, raises, fetches, sees, replies, goesOn, exchanges}
+use Rattle.handshake.specs.Transfer.{noTransfer}
+use Rattle.exchange.specs.Host.{level, ask, Sending, high, Going, going, exchanged, sends, waits, raises, replies, goesOn, exchanges}
 use Rattle.exchange.specs.Waits.{wordOf, bitsOf, lastOf, sum, lowTime, sentTime, fetchTime, lowCount, sentCount, fetchCount, InTime}
 use Rattle.exchange.specs.Unit.{Carried, Rules, Wired, wired, afterWord, unit}
 use Rattle.exchange.specs.AtOnce.{zeros, rests, fallAnswer, refused, done, carries, atOnce}

@@ -9,9 +9,9 @@ use Rattle.handshake.specs.declared.Transfer.{Transfer}
 use Rattle.handshake.specs.declared.Edge.the-variants.{Keep}
 use Rattle.handshake.specs.Transfer.{patience, noTransfer}
 use Rattle.handshake.specs.Edges.{waitOf}
-use Rattle.exchange.specs.Host.{micros, Going, going, sends, waits}
+use Rattle.exchange.specs.Host.{micros, going, sends, waits}
 use Rattle.exchange.specs.Waits.{sum}
-use Rattle.exchange.specs.Unit.{Rules, Wired, wired, unit}
+use Rattle.exchange.specs.Unit.{Rules, wired, unit}
 use Rattle.exchange.specs.AtOnce.{zeros}
 use Rattle.exchange.proofs.Laws.{Laws}
 use Rattle.exchange.proofs.Steps.{none-wait}

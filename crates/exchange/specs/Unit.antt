@@ -41,19 +41,16 @@ pub record Met (B : Type 0) : Type 0 where
 abbrev pub wired : {B : Type 0} → B → Transfer → ℕ → ℕ → ℕ → Wired B
 wired b t command request elapsed = record { body = b; transfer = t; command = command; request = request; elapsed = elapsed }
 
--- "0 taken", "5 a fault rule applied"
-abbrev pub ruled : {B : Type 0} → B → Transfer → Bool → Met B
-ruled b t fails = record { body = b; transfer = t; answer = if fails then 5 else 0 }
-
 -- "after the 17th bit in, the word is carried out and any response is fixed"
 abbrev pub afterWord : Option ℕ → Transfer
 afterWord none = noTransfer
 afterWord (some r) = respondingWith r
 
-module _ {B : Type 0} (R : Rules B) where
-  abbrev pub carriedOut : Carried B → Met B
-  carriedOut c = ruled (c .body) (afterWord (c .told)) (c .fails)
+-- "5 a fault rule applied", else "0 taken"
+abbrev pub carriedOut : {B : Type 0} → Carried B → Met B
+carriedOut c = record { body = c .body; transfer = afterWord (c .told); answer = if c .fails then 5 else 0 }
 
+module _ {B : Type 0} (R : Rules B) where
   -- "bit 6, dropped"
   abbrev pub dropped : B → Met B
   dropped b = record { body = R .fault b; transfer = noTransfer; answer = 5 }
@@ -63,6 +60,7 @@ module _ {B : Type 0} (R : Rules B) where
   met b Drop = dropped b
   met b (Carry n) = carriedOut (R .carry n b)
 
+  -- a wait carries nothing out
   abbrev pub held : B → Edge → Met B
   held b (Keep t) = record { body = b; transfer = t; answer = 0 }
   held b Drop = dropped b
