@@ -31,7 +31,7 @@ use Rattle.chain.specs.Record.{slotB, slotPack, slotState, lookOf}
 use Rattle.chain.specs.Decide.{cellPlace}
 use Rattle.chain.specs.Sound.{packTests, packB, placedOf, placesB, driveB, soundB}
 
-guarded : (a b : Bool) → (if not a then false else b) ≡ true → (a ≡ true) × (b ≡ true)
+pub guarded : (a b : Bool) → (if not a then false else b) ≡ true → (a ≡ true) × (b ≡ true)
 guarded true b h = (refl, h)
 guarded false b h = absurd (false≢true h)
 
