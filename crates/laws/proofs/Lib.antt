@@ -1,1 +1,4 @@
 pub mod Fitted
+pub mod Walk
+pub mod Outcomes
+pub mod Column
