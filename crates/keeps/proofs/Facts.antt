@@ -1,0 +1,48 @@
+-- A sound drive as named facts, both ways.
+use mathlib.Core.Path.{_≡_, refl}
+use mathlib.Core.Bool.{Bool, true, false, not, false≢true}
+use borrow.Author.Tests.{eqb-true, eq-eqb}
+use Rattle.counts.specs.Choice.{if_then_else_}
+use Rattle.counts.proofs.Tests.{each, all}
+use Rattle.trailer.specs.declared.Profile.{Profile}
+use Rattle.handshake.specs.Left.{noneB}
+use Rattle.drive.specs.declared.State.{State}
+use Rattle.drive.specs.Limits.{limitsB}
+use Rattle.acts.proofs.Limits.{Parts, parts}
+use Rattle.unit.specs.declared.Lines.{Lines}
+use Rattle.unit.specs.Sound.{selectedTests, selectedB, unselectedTests, unselectedB, soundB}
+use Rattle.unit.proofs.Facts.{Selected, selected}
+
+pub from-selected : (p : Profile) (l : Lines) (s : State) → Selected p l s → soundB p l true s ≡ true
+unfolding soundB selectedB
+from-selected p l s f =
+    rw (f .limits)
+    (all (selectedTests p l s) (eq-eqb (s .body .head .0) (l .heads .0) (f .head), (f .left, (f .writing, (f .reading, tt)))))
+
+-- an unselected drive of a sound record
+pub record Unselected (p : Profile) (s : State) : Type 0 where
+  pub limits : limitsB p (s .body) ≡ true
+  pub none : noneB (s .transfer) ≡ true
+  pub writing : s .body .writing ≡ 0
+  pub reading : s .body .reading ≡ 0
+
+guarded : (a b : Bool) → (if not a then false else b) ≡ true → (a ≡ true) × (b ≡ true)
+guarded true b h = (refl, h)
+guarded false b h = absurd (false≢true h)
+
+pub unselected : (p : Profile) (l : Lines) (s : State) → soundB p l false s ≡ true → Unselected p s
+unfolding soundB unselectedB
+unselected p l s h =
+    let g = guarded (limitsB p (s .body)) (unselectedB s) h in
+    let e = each (unselectedTests s) (g .1) in
+    record { limits = g .0; none = e .0; writing = eqb-true _ _ (e .1 .0); reading = eqb-true _ _ (e .1 .1 .0) }
+
+pub from-unselected : (p : Profile) (l : Lines) (s : State) → Unselected p s → soundB p l false s ≡ true
+unfolding soundB unselectedB
+from-unselected p l s f =
+    rw (f .limits)
+    (all (unselectedTests s) (f .none, (eq-eqb (s .body .writing) 0 (f .writing), (eq-eqb (s .body .reading) 0 (f .reading), tt))))
+
+pub sound-parts : (p : Profile) (l : Lines) (on : Bool) (s : State) → soundB p l on s ≡ true → Parts p (s .body)
+sound-parts p l true s h = parts p (s .body) (selected p l s h .limits)
+sound-parts p l false s h = parts p (s .body) (unselected p l s h .limits)

@@ -1,0 +1,13 @@
+pub mod Levels
+pub mod Facts
+pub mod Left
+pub mod Gates
+pub mod Bodies
+pub mod Transfers
+pub mod Time
+pub mod RequestRules
+pub mod GateRules
+pub mod SelectRules
+pub mod ConditionRules
+pub mod TimeRules
+pub mod Keeps
