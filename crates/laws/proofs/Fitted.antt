@@ -5,7 +5,7 @@ use mathlib.Core.List.{List, [], _∷_}
 use Prim.Native.Nat.{ℕ, zero, suc, _+_, _-_, _≤_, _<_}
 use native.Mathlib.Omega.{arith}
 use native.Mathlib.Numerals.{add-one}
-use borrow.Author.Tests.{eqb-true, eqb-false, eq-eqb, ne-eqb, ltb-false, lt-ltb, le-ltb}
+use borrow.Author.Tests.{eqb-true, eqb-false, eq-eqb, ne-eqb, ltb-false, le-ltb}
 use lib.Dec.{ltb, eqb}
 use lib.ListN.{length, take, set, replicate, length-set, length-append}
 use Rattle.counts.specs.Choice.{if_then_else_}
@@ -14,7 +14,7 @@ use Rattle.counts.specs.Slots.{mapWith, allWith}
 use Rattle.counts.proofs.Tests.{each, all, join}
 use Rattle.trailer.specs.declared.Profile.{Profile}
 use Rattle.trailer.specs.Profile.{mediumOf}
-use Rattle.trailer.specs.Valid.{fieldTests, validB}
+use Rattle.trailer.specs.Valid.{validB}
 use Rattle.trailer.proofs.Facts.{ranges}
 use Rattle.pack.specs.declared.Pack.{Pack}
 use Rattle.pack.specs.declared.Refusal.the-variants.{Large}
@@ -30,10 +30,9 @@ use Rattle.pack.proofs.ReadLaid.{pack-length}
 use Rattle.pack.proofs.LaidRead.{Made, file-read}
 use Rattle.drive.specs.declared.State.{State}
 use Rattle.drive.specs.State.{freshOf}
-use Rattle.drive.specs.Limits.{limitsB}
 use Rattle.event.specs.declared.Event.{Event}
-use Rattle.unit.specs.declared.Lines.{Lines}
 use Rattle.unit.specs.Sound as unit
+use Rattle.keeps.proofs.Keeps.{fresh-sound}
 use Rattle.chain.specs.declared.Chain.{Chain}
 use Rattle.chain.specs.Fresh.{lowLines, freshSlot, blankStates, endOf, fitOf}
 use Rattle.chain.specs.Decide.{decideOf}
@@ -135,15 +134,6 @@ slots-long : (xs : List Contents) (place : ℕ) (found : List Pack) → length (
 slots-long [] place found = refl
 slots-long (x ∷ xs) place found = length-set (slotsOf xs (place + length (packOf x)) found) (x .profile .slot - 1) _ ∙ slots-long xs (place + length (packOf x)) found
 
--- a fresh drive breaks no limit, and has neither a transfer nor a gate's work
-fresh-sound : (p : Profile) (l : Lines) → validB p ≡ true → unit.soundB p l false (freshOf p) ≡ true
-unfolding unit.soundB unit.unselectedB limitsB validB
-fresh-sound p l v =
-    let e = each (fieldTests p) v in
-    let r = ranges p v in
-    let arm = lt-ltb 0 (p .shape .cylinders .0) (omega arith) in
-    simp (arm, e .1 .1 .1 .1 .1 .0)
-
 fresh-drive : (p : Pack) (s : State) → (p .fitted ≡ 1 → (validB (p .profile) ≡ true) × (1 ≤ p .profile .slot)) → driveB lowLines p (freshSlot p s) ≡ true
 unfolding driveB freshSlot
 fresh-drive p s h = by (eqb (p .fitted) 1) refl
@@ -152,7 +142,7 @@ fresh-drive p s h = by (eqb (p .fitted) 1) refl
         → (if not t then true else unit.soundB (p .profile) lowLines (eqb 0 (p .profile .slot)) (if t then freshOf (p .profile) else s)) ≡ true
     by true q =
         let g = h (eqb-true _ _ q) in
-        rw (ne-eqb 0 (p .profile .slot) (λ (z : 0 ≡ p .profile .slot). omega arith)) (fresh-sound (p .profile) lowLines (g .0))
+        rw (ne-eqb 0 (p .profile .slot) (λ (z : 0 ≡ p .profile .slot). omega arith)) (fresh-sound (p .profile) (g .0) lowLines)
     by false q = refl
 
 -- so in every slot

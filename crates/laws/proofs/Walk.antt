@@ -29,16 +29,16 @@ use Rattle.chain.specs.Decide.{passOf, cellPlace, touching, cellOf, fixedChange
 use Rattle.laws.specs.Levels.{linesAfter, movesB}
 use Rattle.laws.specs.Applies.{ruleOf, askedB}
 
+-- the drive of a slot, entered with the head lines
+abbrev pub enteredOf : Chain → ℕ → Ruled
+enteredOf c slot = metOf (slotPack (c .packs) slot .profile) (c .lines .heads) (slotState (c .states) slot)
+
 module _ (c : Chain) (P : Event → Decision → Type 0) where
   abbrev d : Seen
   d = lookOf c
 
   abbrev l : Lines
   l = c .lines
-
-  -- the drive of a slot, entered with the head lines
-  abbrev pub enteredOf : ℕ → Ruled
-  enteredOf slot = metOf (slotPack (c .packs) slot .profile) (l .heads) (slotState (c .states) slot)
 
   pub record Cases : Type 0 where
     -- a line set to the level it has, and the data line: nothing is met
@@ -51,11 +51,11 @@ module _ (c : Chain) (P : Event → Decision → Type 0) where
     pub met : (e : Event) → d .on ≡ true → movesB e l ≡ true → linesAfter e l .select ≡ l .select → P e (ruledOf (linesAfter e l) (ruleOf d l e))
     -- select
     pub enters : (slot : ℕ) → d .on ≡ false → fittedB (slotPack (c .packs) slot) ≡ true → movesB (Select slot) l ≡ true
-        → P (Select slot) (ruledOf (with-select slot l) (enteredOf slot))
+        → P (Select slot) (ruledOf (with-select slot l) (enteredOf c slot))
     pub leaves : (slot : ℕ) → d .on ≡ true → fittedB (slotPack (c .packs) slot) ≡ false → movesB (Select slot) l ≡ true
         → P (Select slot) (leftAlone (l .select) (leftOf (d .state)) (with-select slot l))
     pub swaps : (slot : ℕ) → d .on ≡ true → fittedB (slotPack (c .packs) slot) ≡ true → movesB (Select slot) l ≡ true
-        → P (Select slot) (bothOf (l .select) (leftOf (d .state)) (enteredOf slot) (with-select slot l))
+        → P (Select slot) (bothOf (l .select) (leftOf (d .state)) (enteredOf c slot) (with-select slot l))
     -- time
     pub passes : (us : Micros) → P (Pass us) (passOf d l us)
     -- cells
