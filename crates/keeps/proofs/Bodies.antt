@@ -1,11 +1,11 @@
 -- Each rule keeps the limits of a drive's fields.
 use mathlib.Core.Path.{_≡_, refl}
-use mathlib.Core.Bool.{Bool, true, false, _&&_, _||_, not}
+use mathlib.Core.Bool.{Bool, true, false, _&&_}
 use Prim.Native.Nat.{ℕ, _-_, _^_, _≤_, _<_}
 use native.Mathlib.Omega.{arith}
 use lib.Dec.{ltb, leb, eqb}
 use borrow.Author.Needs.{needs}
-use borrow.Author.Tests.{ltb-true, ltb-false, leb-true, leb-false, not-true, eqb-true, eqb-false, le-leb, lt-ltb, ne-eqb}
+use borrow.Author.Tests.{ltb-false, leb-true, leb-false, not-true, eqb-false, le-leb, lt-ltb, ne-eqb}
 use Rattle.counts.specs.declared.Head.{Head}
 use Rattle.counts.specs.declared.Micros.{Micros}
 use Rattle.counts.specs.Bytes.{bit}
@@ -17,11 +17,15 @@ use Rattle.trailer.specs.Valid.{fieldTests, validB}
 use Rattle.trailer.proofs.Facts.{ranges}
 use Rattle.drive.specs.declared.Body.{Body}
 use Rattle.drive.specs.State.{starting, up, with-reading, with-writing, freshBody}
-use Rattle.drive.specs.Faults.{latchBit, losePosition, conditionOf}
+use Rattle.drive.specs.Faults.{latchBit, losePosition}
 use Rattle.drive.specs.Heads.{switchedOf}
 use Rattle.drive.specs.Time.{motorAfter, passBody}
 use Rattle.drive.specs.Limits.{armTests, motorB}
 use Rattle.acts.proofs.Limits.{Parts, latch-keeps}
+
+-- "2 latches bit 4, loses the position and ends reading"
+abbrev pub lostBody : Body → Body
+lostBody b = with-reading 0 (losePosition (latchBit 4 b))
 
 pub fresh-limits : (p : Profile) → validB p ≡ true → Parts p (freshBody p)
 unfolding validB
@@ -46,8 +50,8 @@ module _ (p : Profile) (b : Body) (q : Parts p b) where
   pub writing-limits : (n : ℕ) → leb n 1 ≡ true → Parts p (with-writing n b)
   writing-limits n h = search needs
 
-  lost-limits : Parts p (losePosition b)
-  lost-limits =
+  unknown-limits : Parts p (losePosition b)
+  unknown-limits =
       let e = each (armTests p (b .arm)) (q .arm) in
       let arm = join _ _ (join _ _ (e .0) (e .1 .0)) refl in
       search needs
@@ -66,12 +70,9 @@ module _ (p : Profile) (b : Body) (q : Parts p b) where
       (λ e. search needs)
       (λ e. search needs)
 
-  pub condition-limits : (which : ℕ) → Parts p (conditionOf which b)
-  unfolding conditionOf
-  condition-limits which =
-      by-test (Parts p) (eqb which 1) _ _ (λ e. latch-limits 1 (omega arith) refl) λ e.
-      by-test (Parts p) (eqb which 2) _ _ (λ e. reading-limits p _ (lost-limits p _ (latch-limits 4 (omega arith) refl)) 0 refl) λ e.
-      latch-limits 0 (omega arith) refl
+  -- condition 2
+  pub lost-limits : Parts p (lostBody b)
+  lost-limits = reading-limits p _ (unknown-limits p _ (latch-limits 4 (omega arith) refl)) 0 refl
 
   pub pass-limits : (us : Micros) → Parts p (passBody us b)
   unfolding passBody motorAfter
@@ -84,3 +85,13 @@ module _ (p : Profile) (b : Body) (q : Parts p b) where
       (le-leb (head - us .0) 60_000 (omega (arith, leb-true head 60_000 (t .1)))) in
       let motor = motor-passes (b .motor) busy (us .0) _ _ _ refl refl refl (q .motor) in
       search needs
+
+-- what a head change leaves: the new head, no reading, writing as it was
+pub record Switched (h : Head) (b e : Body) : Type 0 where
+  pub head : e .head ≡ h
+  pub reading : e .reading ≡ 0
+  pub writing : e .writing ≡ b .writing
+
+pub switched-leaves : (p : Profile) (h : Head) (b : Body) → Switched h b (switchedOf p h b)
+unfolding switchedOf
+switched-leaves p h b = by-test (Switched h b) (ltb 15 (p .times .switch .0)) _ _ (λ e. search needs) (λ e. search needs)

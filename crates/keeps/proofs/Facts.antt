@@ -8,9 +8,10 @@ use Rattle.trailer.specs.declared.Profile.{Profile}
 use Rattle.handshake.specs.Left.{noneB}
 use Rattle.drive.specs.declared.State.{State}
 use Rattle.drive.specs.Limits.{limitsB}
+use Rattle.acts.proofs.Limits.{Parts, parts}
 use Rattle.unit.specs.declared.Lines.{Lines}
 use Rattle.unit.specs.Sound.{selectedTests, selectedB, unselectedTests, unselectedB, soundB}
-use Rattle.unit.proofs.Facts.{Selected}
+use Rattle.unit.proofs.Facts.{Selected, selected}
 
 pub from-selected : (p : Profile) (l : Lines) (s : State) → Selected p l s → soundB p l true s ≡ true
 unfolding soundB selectedB
@@ -41,3 +42,7 @@ unfolding soundB unselectedB
 from-unselected p l s f =
     rw (f .limits)
     (all (unselectedTests s) (f .none, (eq-eqb (s .body .writing) 0 (f .writing), (eq-eqb (s .body .reading) 0 (f .reading), tt))))
+
+pub sound-parts : (p : Profile) (l : Lines) (on : Bool) (s : State) → soundB p l on s ≡ true → Parts p (s .body)
+sound-parts p l true s h = parts p (s .body) (selected p l s h .limits)
+sound-parts p l false s h = parts p (s .body) (unselected p l s h .limits)

@@ -1,6 +1,6 @@
 -- When a drive may read or write, and when it surely does not.
-use mathlib.Core.Path.{_≡_, refl, _∙_}
-use mathlib.Core.Bool.{Bool, true, false, not, _||_, false≢true}
+use mathlib.Core.Path.{_≡_, refl, sym, _∙_}
+use mathlib.Core.Bool.{Bool, true, false, _||_, false≢true}
 use Prim.Native.Nat.{ℕ, _≤_}
 use native.Mathlib.Omega.{arith}
 use lib.Dec.{eqb}
@@ -8,12 +8,19 @@ use borrow.Author.Tests.{eqb-true, eqb-false, eq-eqb}
 use Rattle.counts.specs.Tests.{allOf}
 use Rattle.counts.proofs.Tests.{all}
 use Rattle.trailer.specs.declared.Profile.{Profile}
+use Rattle.handshake.specs.Left.{leftB}
 use Rattle.drive.specs.declared.State.{State}
 use Rattle.drive.specs.Status.{completeB}
 use Rattle.drive.proofs.Facts.{limits, usable}
+use Rattle.acts.proofs.Limits.{Parts, whole}
 use Rattle.unit.specs.declared.Lines.{Lines}
-use Rattle.unit.specs.Sound.{writingTests, writingB, readingTests, readingB}
+use Rattle.unit.specs.Sound.{writingTests, writingB, readingTests, readingB, soundB}
 use Rattle.unit.proofs.Facts.{Selected, Writes, writes, Reads, reads}
+use Rattle.keeps.proofs.Facts.{from-selected}
+
+pub both-off : (a b : Bool) → (a || b) ≡ false → (a ≡ false) × (b ≡ false)
+both-off true b h = absurd (false≢true (sym h))
+both-off false b h = (refl, h)
 
 or-right : (a b : Bool) → b ≡ true → (a || b) ≡ true
 or-right true b h = refl
@@ -29,16 +36,11 @@ not-reading p l s h = rw h
 
 pub may-write : (p : Profile) (l : Lines) (s : State) → Writes p l s → writingB p l s ≡ true
 unfolding writingB
-may-write p l s w =
-    or-right (eqb (s .body .writing) 0) (allOf (writingTests p l s))
-    (all (writingTests p l s)
-    (eq-eqb (l .writegate) 1 (w .gate), (eq-eqb (l .readgate) 0 (w .other), (w .quiet, (eq-eqb (s .body .arm .offset) 0 (w .offset), (w .usable, (eq-eqb (p .protected) 0 (w .free), tt)))))))
+may-write p l s w = or-right (eqb (s .body .writing) 0) (allOf (writingTests p l s)) (all (writingTests p l s) (search eq-eqb))
 
 pub may-read : (p : Profile) (l : Lines) (s : State) → Reads p l s → readingB p l s ≡ true
 unfolding readingB
-may-read p l s r =
-    or-right (eqb (s .body .reading) 0) (allOf (readingTests p l s))
-    (all (readingTests p l s) (eq-eqb (l .readgate) 1 (r .gate), (eq-eqb (l .writegate) 0 (r .other), (r .usable, tt))))
+may-read p l s r = or-right (eqb (s .body .reading) 0) (allOf (readingTests p l s)) (all (readingTests p l s) (search eq-eqb))
 
 -- a flag that is not 1
 pub flag : (n : ℕ) → n ≤ 1 → (n ≡ 1 → ⊥) → n ≡ 0
@@ -83,3 +85,15 @@ module _ (p : Profile) (l : Lines) (s : State) (f : Selected p l s) where
       cases : (z : Bool) → eqb (s .body .reading) 0 ≡ z → readingB p m r ≡ true
       cases true z = not-reading p m r (same ∙ eqb-true _ _ z)
       cases false z = may-read p m r (on (reads p l s (f .reading) (set (s .body .reading) (limits p (s .body) (f .limits) .reading) z)))
+
+-- a selected drive that neither reads nor writes
+pub neither : (p : Profile) (l : Lines) (s : State) → Parts p (s .body) → s .body .head .0 ≡ l .heads .0 → leftB (l .request) (s .transfer) ≡ true
+    → s .body .writing ≡ 0 → s .body .reading ≡ 0 → soundB p l true s ≡ true
+neither p l s q head left w r =
+    from-selected p l s (record {
+      limits = whole p (s .body) q;
+      head = head;
+      left = left;
+      writing = not-writing p l s w;
+      reading = not-reading p l s r;
+    })

@@ -1,14 +1,14 @@
 -- Time on one drive: how it splits, when it changes nothing, and when a drive is complete after it.
 use mathlib.Core.Path.{_≡_, refl, sym, ap, ap₂, _∙_}
-use mathlib.Core.Bool.{Bool, true, false, _&&_, not, false≢true}
+use mathlib.Core.Bool.{Bool, true, false, _&&_, not}
 use Prim.Native.Nat.{ℕ, _+_, _-_, _≤_, _<_}
 use native.Mathlib.Nat.{add-zero, add-assoc, sub-zero}
 use native.Mathlib.Omega.{arith}
 use lib.Dec.{ltb, leb, eqb}
-use borrow.Author.Tests.{ltb-true, ltb-false, leb-true, leb-false, eqb-true, eqb-false, le-leb, lt-leb, lt-ltb, le-ltb, eq-eqb, not-true, not-false}
+use borrow.Author.Tests.{ltb-true, ltb-false, leb-true, leb-false, eqb-true, le-leb, lt-leb, lt-ltb, le-ltb, eq-eqb, not-false}
 use Rattle.counts.specs.declared.Micros.{Micros}
 use Rattle.counts.specs.Choice.{if_then_else_}
-use Rattle.counts.proofs.Tests.{both, join}
+use Rattle.counts.proofs.Tests.{both}
 use Rattle.handshake.specs.declared.Transfer.{Transfer}
 use Rattle.handshake.specs.Transfer.{patience, noTransfer, openB}
 use Rattle.handshake.specs.declared.Edge.the-variants.{Keep, Drop}
@@ -76,34 +76,34 @@ complete-after us s h busy head =
     let z : eqb (s .transfer .way) 0 ≡ true = not-false _ h in
     rw (z, z, eq-eqb (s .body .timers .busy .0 - us .0) 0 (omega arith), eq-eqb (s .body .timers .head .0 - us .0) 0 (omega arith))
 
-abbrev pub sumOf : Micros → Micros → Micros
-sumOf a b = record { 0 = a .0 + b .0 }
+abbrev pub plusOf : Micros → Micros → Micros
+plusOf a b = record { 0 = a .0 + b .0 }
 
 -- a starting motor comes up in the one part or in the other
-motor-twice : (m : ℕ) (busy a b : Micros) → motorAfter (motorAfter m busy a) (lessOf busy a) b ≡ motorAfter m busy (sumOf a b)
+motor-twice : (m : ℕ) (busy a b : Micros) → motorAfter (motorAfter m busy a) (lessOf busy a) b ≡ motorAfter m busy (plusOf a b)
 motor-twice m busy a b =
     cases (eqb m starting) (ltb 0 (busy .0)) (leb (busy .0) (a .0)) (leb (busy .0) (a .0 + b .0)) refl refl refl refl
   where
     cases : (s r e k : Bool) → eqb m starting ≡ s → ltb 0 (busy .0) ≡ r → leb (busy .0) (a .0) ≡ e → leb (busy .0) (a .0 + b .0) ≡ k
-        → motorAfter (motorAfter m busy a) (lessOf busy a) b ≡ motorAfter m busy (sumOf a b)
-    cases false r e k s _ _ _ = rw (motor-same m busy a s) (motor-same m (lessOf busy a) b s ∙ sym (motor-same m busy (sumOf a b) s))
+        → motorAfter (motorAfter m busy a) (lessOf busy a) b ≡ motorAfter m busy (plusOf a b)
+    cases false r e k s _ _ _ = rw (motor-same m busy a s) (motor-same m (lessOf busy a) b s ∙ sym (motor-same m busy (plusOf a b) s))
     cases true false e k s r _ _ =
         let z : busy .0 ≡ 0 = omega (arith, ltb-false 0 (busy .0) r) in
-        rw (motor-rests m busy a z) (motor-rests m (lessOf busy a) b (omega arith) ∙ sym (motor-rests m busy (sumOf a b) z))
+        rw (motor-rests m busy a z) (motor-rests m (lessOf busy a) b (omega arith) ∙ sym (motor-rests m busy (plusOf a b) z))
     cases true true true k s r e _ =
         let some = ltb-true 0 (busy .0) r in
         let h = leb-true (busy .0) (a .0) e in
-        rw (motor-up m busy a s some h) (motor-same up (lessOf busy a) b refl ∙ sym (motor-up m busy (sumOf a b) s some (omega arith)))
+        rw (motor-up m busy a s some h) (motor-same up (lessOf busy a) b refl ∙ sym (motor-up m busy (plusOf a b) s some (omega arith)))
     cases true true false true s r e k =
         let late = leb-false (busy .0) (a .0) e in
         let h = leb-true (busy .0) (a .0 + b .0) k in
-        rw (motor-waits m busy a late) (motor-up m (lessOf busy a) b s (omega arith) (omega arith) ∙ sym (motor-up m busy (sumOf a b) s (omega arith) h))
+        rw (motor-waits m busy a late) (motor-up m (lessOf busy a) b s (omega arith) (omega arith) ∙ sym (motor-up m busy (plusOf a b) s (omega arith) h))
     cases true true false false s r e k =
         let late = leb-false (busy .0) (a .0) e in
         let later = leb-false (busy .0) (a .0 + b .0) k in
-        rw (motor-waits m busy a late) (motor-waits m (lessOf busy a) b (omega arith) ∙ sym (motor-waits m busy (sumOf a b) later))
+        rw (motor-waits m busy a late) (motor-waits m (lessOf busy a) b (omega arith) ∙ sym (motor-waits m busy (plusOf a b) later))
 
-pub body-twice : (a b : Micros) (d : Body) → passBody b (passBody a d) ≡ passBody (sumOf a b) d
+pub body-twice : (a b : Micros) (d : Body) → passBody b (passBody a d) ≡ passBody (plusOf a b) d
 unfolding passBody
 body-twice a b d =
     let busy : d .timers .busy .0 - a .0 - b .0 ≡ d .timers .busy .0 - (a .0 + b .0) = omega arith in
@@ -128,20 +128,20 @@ unfolding waitOf
 open-waits us t z h = rw (z, le-ltb patience (t .waiting .0 + us .0) h)
 
 module _ (us : Micros) (s : State) where
-  pass-closed : eqb (s .transfer .way) 0 ≡ true → passOf us s .state ≡ stateOf (passBody us (s .body)) (s .transfer)
+  pub pass-closed : eqb (s .transfer .way) 0 ≡ true → passOf us s .state ≡ stateOf (passBody us (s .body)) (s .transfer)
   unfolding passOf
   pass-closed z = rw (closed-waits us (s .transfer) z)
 
-  pass-late : eqb (s .transfer .way) 0 ≡ false → patience < s .transfer .waiting .0 + us .0 → passOf us s .state ≡ droppedOf (passBody us (s .body))
+  pub pass-late : eqb (s .transfer .way) 0 ≡ false → patience < s .transfer .waiting .0 + us .0 → passOf us s .state ≡ droppedOf (passBody us (s .body))
   unfolding passOf
   pass-late z h = rw (late-drops us (s .transfer) z h)
 
-  pass-open : eqb (s .transfer .way) 0 ≡ false → s .transfer .waiting .0 + us .0 ≤ patience
+  pub pass-open : eqb (s .transfer .way) 0 ≡ false → s .transfer .waiting .0 + us .0 ≤ patience
       → passOf us s .state ≡ stateOf (passBody us (s .body)) (agedBy us (s .transfer))
   unfolding passOf
   pass-open z h = rw (open-waits us (s .transfer) z h)
 
-aged-twice : (a b : Micros) (t : Transfer) → agedBy b (agedBy a t) ≡ agedBy (sumOf a b) t
+aged-twice : (a b : Micros) (t : Transfer) → agedBy b (agedBy a t) ≡ agedBy (plusOf a b) t
 aged-twice a b t = rw (add-assoc (t .waiting .0) (a .0) (b .0))
 
 module _ (a b : Micros) (s : State) where
@@ -149,45 +149,45 @@ module _ (a b : Micros) (s : State) where
   t = s .transfer
 
   twice : (z e k : Bool) → eqb (t .way) 0 ≡ z → ltb patience (t .waiting .0 + a .0) ≡ e → ltb patience (t .waiting .0 + (a .0 + b .0)) ≡ k
-      → passOf b (passOf a s .state) .state ≡ passOf (sumOf a b) s .state
+      → passOf b (passOf a s .state) .state ≡ passOf (plusOf a b) s .state
   twice true e k z _ _ =
       rw (pass-closed a s z)
-      (pass-closed b _ z ∙ ap (λ (d : Body). stateOf d t) (body-twice a b (s .body)) ∙ sym (pass-closed (sumOf a b) s z))
+      (pass-closed b _ z ∙ ap (λ (d : Body). stateOf d t) (body-twice a b (s .body)) ∙ sym (pass-closed (plusOf a b) s z))
   twice false true k z e _ =
       let late = ltb-true patience (t .waiting .0 + a .0) e in
       rw (pass-late a s z late)
       (pass-closed b _ refl
       ∙ ap (λ (d : Body). stateOf d noTransfer) (latch-later b 64 _ ∙ ap (latchOf 64) (body-twice a b (s .body)))
-      ∙ sym (pass-late (sumOf a b) s z (omega arith)))
+      ∙ sym (pass-late (plusOf a b) s z (omega arith)))
   twice false false true z e k =
       let short = ltb-false patience (t .waiting .0 + a .0) e in
       let late = ltb-true patience (t .waiting .0 + (a .0 + b .0)) k in
-      rw (pass-open a s z short) (pass-late b _ z (omega arith) ∙ ap droppedOf (body-twice a b (s .body)) ∙ sym (pass-late (sumOf a b) s z late))
+      rw (pass-open a s z short) (pass-late b _ z (omega arith) ∙ ap droppedOf (body-twice a b (s .body)) ∙ sym (pass-late (plusOf a b) s z late))
   twice false false false z e k =
       let short = ltb-false patience (t .waiting .0 + a .0) e in
       let whole = ltb-false patience (t .waiting .0 + (a .0 + b .0)) k in
       rw (pass-open a s z short)
-      (pass-open b _ z (omega arith) ∙ ap₂ stateOf (body-twice a b (s .body)) (aged-twice a b t) ∙ sym (pass-open (sumOf a b) s z whole))
+      (pass-open b _ z (omega arith) ∙ ap₂ stateOf (body-twice a b (s .body)) (aged-twice a b t) ∙ sym (pass-open (plusOf a b) s z whole))
 
   -- time in two parts is the time at once
-  pub pass-pass : passOf b (passOf a s .state) .state ≡ passOf (sumOf a b) s .state
+  pub pass-pass : passOf b (passOf a s .state) .state ≡ passOf (plusOf a b) s .state
   pass-pass = twice (eqb (t .way) 0) (ltb patience (t .waiting .0 + a .0)) (ltb patience (t .waiting .0 + (a .0 + b .0))) refl refl refl
 
-abbrev none : Micros
-none = record { 0 = 0 }
+abbrev pub noTime : Micros
+noTime = record { 0 = 0 }
 
-motor-zero : (motor : ℕ) (busy : Micros) (r : Bool) → ltb 0 (busy .0) ≡ r → motorAfter motor busy none ≡ motor
-motor-zero motor busy true r = motor-waits motor busy none (ltb-true 0 (busy .0) r)
-motor-zero motor busy false r = motor-rests motor busy none (omega (arith, ltb-false 0 (busy .0) r))
+motor-zero : (motor : ℕ) (busy : Micros) (r : Bool) → ltb 0 (busy .0) ≡ r → motorAfter motor busy noTime ≡ motor
+motor-zero motor busy true r = motor-waits motor busy noTime (ltb-true 0 (busy .0) r)
+motor-zero motor busy false r = motor-rests motor busy noTime (omega (arith, ltb-false 0 (busy .0) r))
 
-pub body-zero : (d : Body) → passBody none d ≡ d
+pub body-zero : (d : Body) → passBody noTime d ≡ d
 unfolding passBody
 body-zero d = rw (motor-zero (d .motor) (d .timers .busy) _ refl, sub-zero (d .timers .busy .0), sub-zero (d .timers .head .0))
 
 -- no time changes nothing, where no open transfer has waited too long
-pub pass-zero : (s : State) → s .transfer .waiting .0 ≤ patience → passOf none s .state ≡ s
+pub pass-zero : (s : State) → s .transfer .waiting .0 ≤ patience → passOf noTime s .state ≡ s
 pass-zero s h = cases (eqb (s .transfer .way) 0) refl
   where
-    cases : (z : Bool) → eqb (s .transfer .way) 0 ≡ z → passOf none s .state ≡ s
-    cases true z = pass-closed none s z ∙ ap (λ (d : Body). stateOf d (s .transfer)) (body-zero (s .body))
-    cases false z = pass-open none s z (omega arith) ∙ ap₂ stateOf (body-zero (s .body)) (rw add-zero)
+    cases : (z : Bool) → eqb (s .transfer .way) 0 ≡ z → passOf noTime s .state ≡ s
+    cases true z = pass-closed noTime s z ∙ ap (λ (d : Body). stateOf d (s .transfer)) (body-zero (s .body))
+    cases false z = pass-open noTime s z (omega arith) ∙ ap₂ stateOf (body-zero (s .body)) (rw add-zero)

@@ -1,0 +1,85 @@
+-- Head changes and select keep a sound drive sound.
+use mathlib.Core.Path.{_≡_, refl, ap, _∙_}
+use mathlib.Core.Bool.{true, false, _||_}
+use Prim.Native.Nat.{ℕ, _≤_}
+use native.Mathlib.Omega.{arith}
+use lib.Dec.{eqb}
+use borrow.Author.Tests.{leb-true, eqb-true, eqb-false, not-false}
+use Rattle.counts.specs.declared.Head.{Head}
+use Rattle.counts.proofs.Tests.{each}
+use Rattle.counts.proofs.Choice.{by-test}
+use Rattle.trailer.specs.declared.Profile.{Profile}
+use Rattle.trailer.specs.Valid.{validB}
+use Rattle.handshake.specs.Transfer.{openB}
+use Rattle.handshake.specs.Left.{leftB}
+use Rattle.drive.specs.declared.Body.{Body}
+use Rattle.drive.specs.declared.State.{State}
+use Rattle.drive.specs.declared.Ruled.{Ruled}
+use Rattle.drive.specs.State.{with-reading, stateOf}
+use Rattle.drive.specs.Faults.{latchOf, latchBit}
+use Rattle.drive.specs.Heads.{switchedOf, headChange, metOf, leftOf}
+use Rattle.drive.specs.Time.{droppedOf}
+use Rattle.acts.proofs.Limits.{Parts, whole}
+use Rattle.unit.specs.declared.Lines.{Lines}
+use Rattle.unit.specs.Sound.{lineTests, linesB, writingB, readingB, soundB}
+use Rattle.unit.proofs.Facts.{selected}
+use Rattle.keeps.proofs.Levels.{with-select, with-heads}
+use Rattle.keeps.proofs.Facts.{from-selected, unselected, from-unselected, sound-parts}
+use Rattle.keeps.proofs.Gates.{both-off, flag, neither}
+use Rattle.keeps.proofs.Left.{none-left, left-none}
+use Rattle.keeps.proofs.Bodies.{reading-limits, latch-limits, switched-limits, switched-leaves}
+
+module _ (p : Profile) (v : validB p ≡ true) (l : Lines) (s : State) where
+  -- a head change, at whatever lines show that head
+  changed-sound : (m : Lines) (h : Head) → h .0 ≤ 15 → h .0 ≡ m .heads .0 → Parts p (s .body) → leftB (m .request) (s .transfer) ≡ true
+      → soundB p m true (headChange p h s .state) ≡ true
+  unfolding headChange latchOf
+  changed-sound m h most shown q left =
+      let ends : (b : Body) → Parts p b → b .writing ≡ 0 → soundB p m true (stateOf (switchedOf p h b) (s .transfer)) ≡ true =
+      λ b r w.
+      let e = switched-leaves p h b in
+      neither p m (stateOf (switchedOf p h b) (s .transfer)) (switched-limits p b r v h most) (ap (λ (x : Head). x .0) (e .head) ∙ shown) left (e .writing ∙ w) (e .reading) in
+      by-test (λ (r : Ruled). soundB p m true (r .state) ≡ true) (eqb (s .body .writing) 1) _ _
+      (λ on. ends (latchBit 6 (s .body)) (latch-limits p (s .body) q 6 (omega arith) refl) refl)
+      (λ off. ends (s .body) q (flag (s .body .writing) (leb-true _ _ (q .writing)) (eqb-false _ _ off)))
+
+  pub heads-keeps : (h : Head) → h .0 ≤ 15 → soundB p l true s ≡ true → soundB p (with-heads h l) true (metOf p h s .state) ≡ true
+  unfolding metOf writingB readingB
+  heads-keeps h most sound =
+      let f = selected p l s sound in
+      let m = with-heads h l in
+      by-test (λ (r : Ruled). soundB p m true (r .state) ≡ true) (eqb (s .body .head .0) (h .0)) _ _
+      (λ same. from-selected p m s (record { limits = f .limits; head = eqb-true _ _ same; left = f .left; writing = f .writing; reading = f .reading }))
+      (λ other. changed-sound m h most refl (sound-parts p l true s sound) (f .left))
+
+  pub entered-keeps : (x : ℕ) → linesB l ≡ true → soundB p l false s ≡ true → soundB p (with-select x l) true (metOf p (l .heads) s .state) ≡ true
+  unfolding metOf
+  entered-keeps x k sound =
+      let u = unselected p l s sound in
+      let q = sound-parts p l false s sound in
+      let m = with-select x l in
+      let left = none-left (l .request) (s .transfer) (u .none) in
+      by-test (λ (r : Ruled). soundB p m true (r .state) ≡ true) (eqb (s .body .head .0) (l .heads .0)) _ _
+      (λ same. neither p m s q (eqb-true _ _ same) left (u .writing) (u .reading))
+      (λ other. changed-sound m (l .heads) (leb-true _ _ (each (lineTests l) k .1 .0)) refl q left)
+
+  pub left-keeps : soundB p l true s ≡ true → (m : Lines) → soundB p m false (leftOf s .state) ≡ true
+  unfolding leftOf latchOf
+  left-keeps sound m =
+      let f = selected p l s sound in
+      let q = sound-parts p l true s sound in
+      let ended = reading-limits p (s .body) q 0 refl in
+      let e = both-off (openB (s .transfer)) (eqb (s .body .writing) 1) in
+      by-test (λ (r : Ruled). soundB p m false (r .state) ≡ true) (openB (s .transfer) || eqb (s .body .writing) 1) _ _
+      (λ on. from-unselected p m (droppedOf (with-reading 0 (s .body))) (record {
+        limits = whole p _ (latch-limits p _ ended 6 (omega arith) refl);
+        none = refl;
+        writing = refl;
+        reading = refl;
+      }))
+      (λ off. from-unselected p m (stateOf (with-reading 0 (s .body)) (s .transfer)) (record {
+        limits = whole p _ ended;
+        none = left-none (l .request) (s .transfer) (eqb-true _ _ (not-false _ (e off .0))) (f .left);
+        writing = flag (s .body .writing) (leb-true _ _ (q .writing)) (eqb-false _ _ (e off .1));
+        reading = refl;
+      }))
