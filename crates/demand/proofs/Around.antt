@@ -25,6 +25,7 @@ use Rattle.chain.specs.Signals.{with-command, with-request, dataOf, requestOf}
 use Rattle.chain.specs.Deeds.{saidOf, fileAfter}
 use Rattle.chain.specs.Decide as chain
 use Rattle.chain.specs.Apply.{putOf, passSlot, changedOf, applied}
+use Rattle.chain.proofs.Facts.{state-there}
 use Rattle.exchange.specs.Host.{Signal, level, ask, micros}
 use Rattle.exchange.specs.Unit.{Met, Wired, risen, fallen, passed, asked, after, answer, unit}
 use Rattle.exchange.proofs.Like.{Alike}
@@ -32,7 +33,7 @@ use Rattle.demand.specs.Drive.{drive}
 use Rattle.demand.specs.Decided.{Lent, decided}
 use Rattle.demand.proofs.Slots.{set-set, map-length, map-set, map-map}
 use Rattle.demand.proofs.Meets.{stood, rise-state, rise-answer, fall-state, fall-answer, pass-state, pass-answer, slot-pass-pass}
-use Rattle.demand.proofs.Here.{Here, state-there}
+use Rattle.demand.proofs.Here.{Here}
 
 module _ (c : Chain) (file : List ℕ) where
   -- every slot when so much time has passed
@@ -55,7 +56,7 @@ module _ (c : Chain) (file : List ℕ) where
   abbrev sight : State → Seen
   sight s = record { on = true; place = lookOf c .place; profile = lookOf c .profile; state = s }
 
-  module _ (h : Here c) (on : lookOf c .on ≡ true) (writes : c .lines .writegate ≡ 0) (reads : c .lines .readgate ≡ 0) where
+  module _ (h : Here c (c .lines .select)) (on : lookOf c .on ≡ true) (writes : c .lines .writegate ≡ 0) (reads : c .lines .readgate ≡ 0) where
     put-there : (us : ℕ) (s : State) → slotState (set (slots us) (c .lines .select - 1) s) (c .lines .select) ≡ s
     put-there us s =
         let long : length (slots us) ≡ length (c .states) = map-length (passSlot (record { 0 = us })) (c .packs) (c .states) in

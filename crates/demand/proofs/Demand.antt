@@ -29,7 +29,7 @@ use Rattle.chain.specs.Decision.{outcomeAnswer}
 use Rattle.chain.specs.Signals.{with-command, with-request}
 use Rattle.chain.specs.Decide as chain
 use Rattle.chain.specs.Apply.{putOf, passSlot, changedOf, applied}
-use Rattle.chain.proofs.Facts.{chosen}
+use Rattle.chain.proofs.Facts.{state-there, chosen}
 use Rattle.exchange.specs.Host.{Sending, high, Exchanged, exchanges}
 use Rattle.exchange.specs.Waits.{wordOf, lastOf, lowTime, sentTime, fetchTime, lowCount, sentCount, fetchCount, InTime, bitsOf}
 use Rattle.exchange.specs.Unit.{Wired, unit}
@@ -41,7 +41,7 @@ use Rattle.demand.specs.Decided.{Lent, driveOf, decided}
 use Rattle.demand.specs.AtOnce.{Resting, passed, plain, given, fallAnswer, risen, refused, carried, atOnce}
 use Rattle.demand.proofs.DriveLaws.{drive-laws, carry-answer}
 use Rattle.demand.proofs.Slots.{set-same, map-at}
-use Rattle.demand.proofs.Here.{Here, here, state-there, none-passes, closed-none}
+use Rattle.demand.proofs.Here.{Here, here, none-passes, closed-none}
 use Rattle.demand.proofs.Around.{slots, around, Like, Fine, alike}
 use Rattle.demand.proofs.Plain.{plain-carries, plain-refuses, complete-calm, rest-pass, reading-kept, writing-kept, stays, no-reading, no-writing, low-first}
 
@@ -55,7 +55,7 @@ module _ (c : Chain) (file : List ℕ) (r : Resting c) where
   abbrev k : ℕ
   k = c .lines .select - 1
 
-  abbrev h : Here c
+  abbrev h : Here c (c .lines .select)
   h = here c (r .sound) (r .selected)
 
   abbrev drives : Selected p (c .lines) (driveOf c)
@@ -175,7 +175,7 @@ module _ (w : Sending) (d : Lent) (fit : InTime w) (r : Resting (d .chain)) wher
       (λ i. record { now = sym (e .now) i; answers = sym (e .answers) i; response = sym (e .response) i })
       ∙ ap lent (at-once (drive p₀) (drive-laws p₀) w (driveOf c₀ .body) (c₀ .lines .command) fit)
     where
-      here₀ : Here c₀
+      here₀ : Here c₀ (c₀ .lines .select)
       here₀ = here c₀ (r .sound) (r .selected)
 
       start : Wired Body

@@ -1,4 +1,4 @@
--- Where the selected drive stands in a sound chain, and what a resting chain is.
+-- Where a drive stands in a sound chain, and what no time and no transfer leave of it.
 use Prim.Native.Nat.{ℕ, zero, suc, _-_, _≤_, _<_}
 use native.Mathlib.Omega.{arith}
 use mathlib.Core.Path.{_≡_, refl, sym, ap, _∙_}
@@ -7,7 +7,6 @@ use mathlib.Core.List.{List, [], _∷_}
 use lib.Dec.{eqb}
 use lib.ListN.{length, getD}
 use borrow.Author.Tests.{eqb-true, not-false}
-use Rattle.counts.specs.Choice.{if_then_else_}
 use Rattle.counts.specs.Slots.{mapWith}
 use Rattle.counts.proofs.Tests.{both}
 use Rattle.trailer.specs.declared.Profile.{Profile}
@@ -17,57 +16,43 @@ use Rattle.handshake.specs.Left.{idleB, leftB}
 use Rattle.pack.specs.declared.Pack.{Pack}
 use Rattle.pack.specs.Packs.{noPack}
 use Rattle.drive.specs.declared.State.{State}
-use Rattle.drive.specs.State.{blankState}
 use Rattle.unit.specs.declared.Lines.{Lines}
 use Rattle.unit.specs.Sound as unit
 use Rattle.unit.proofs.Facts.{selected}
 use Rattle.keeps.proofs.Facts.{unselected}
 use Rattle.keeps.proofs.Time.{pass-zero}
-use Rattle.keeps.proofs.Transfers.{Idle, idle, left-none, by-way}
+use Rattle.keeps.proofs.Left.{Idle, idle, left-none, by-way}
 use Rattle.chain.specs.declared.Chain.{Chain}
-use Rattle.chain.specs.Record.{slotB, slotPack, slotState, lookOf}
+use Rattle.chain.specs.Record.{slotB, slotPack, fittedB, lookOf}
 use Rattle.chain.specs.Apply.{passSlot}
 use Rattle.chain.specs.Sound.{driveB, soundB}
-use Rattle.chain.proofs.Facts.{sound}
+use Rattle.chain.proofs.Facts.{sound, slot-of, pack-there}
 use Rattle.demand.proofs.Slots.{map-still, as-long}
 
-pub slot-of : (k : ℕ) (packs : List Pack) → slotPack packs k .fitted ≡ 1 → slotB k ≡ true
-unfolding slotPack
-slot-of k packs f = go (slotB k) refl f
-  where
-    go : (b : Bool) → slotB k ≡ b → (if b then getD packs (k - 1) noPack else noPack) .fitted ≡ 1 → slotB k ≡ true
-    go true e f′ = e
-    go false e f′ = absurd (omega arith)
-
-pub pack-there : (k : ℕ) (packs : List Pack) → slotB k ≡ true → slotPack packs k ≡ getD packs (k - 1) noPack
-unfolding slotPack
-pack-there k packs b = rw b
-
-pub state-there : (k : ℕ) (states : List State) → slotB k ≡ true → slotState states k ≡ getD states (k - 1) blankState
-unfolding slotState
-state-there k states b = rw b
-
-pub inside : (packs : List Pack) (i : ℕ) → getD packs i noPack .fitted ≡ 1 → i < length packs
+inside : (packs : List Pack) (i : ℕ) → getD packs i noPack .fitted ≡ 1 → i < length packs
 inside [] i f = absurd (omega arith)
 inside (p ∷ packs) zero f = omega arith
 inside (p ∷ packs) (suc i) f = let r : i < length packs = inside packs i f in omega arith
 
--- the selected slot is one of the chain's and a drive is fitted there
-pub record Here (c : Chain) : Type 0 where
-  pub slot : slotB (c .lines .select) ≡ true
-  pub fitted : getD (c .packs) (c .lines .select - 1) noPack .fitted ≡ 1
-  pub packs : c .lines .select - 1 < length (c .packs)
-  pub states : c .lines .select - 1 < length (c .states)
+-- a slot of the chain's, with a drive fitted there
+pub record Here (c : Chain) (k : ℕ) : Type 0 where
+  pub slot : slotB k ≡ true
+  pub fitted : getD (c .packs) (k - 1) noPack .fitted ≡ 1
+  pub packs : k - 1 < length (c .packs)
+  pub states : k - 1 < length (c .states)
 
-pub here : (c : Chain) → soundB c ≡ true → lookOf c .on ≡ true → Here c
-unfolding lookOf
-here c h on =
-    let k = c .lines .select in
+pub there : (c : Chain) (k : ℕ) → soundB c ≡ true → fittedB (slotPack (c .packs) k) ≡ true → Here c k
+there c k h on =
     let f : slotPack (c .packs) k .fitted ≡ 1 = eqb-true _ _ on in
     let b = slot-of k (c .packs) f in
     let g : getD (c .packs) (k - 1) noPack .fitted ≡ 1 = ap (λ (p : Pack). p .fitted) (sym (pack-there k (c .packs) b)) ∙ f in
     let i = inside (c .packs) (k - 1) g in
     record { slot = b; fitted = g; packs = i; states = as-long (driveB (c .lines)) (c .packs) (c .states) (k - 1) (sound c h .drives) i }
+
+-- the selected one
+pub here : (c : Chain) → soundB c ≡ true → lookOf c .on ≡ true → Here c (c .lines .select)
+unfolding lookOf
+here c h on = there c (c .lines .select) h on
 
 -- no sound drive's transfer has waited too long
 left-waiting : (request : ℕ) (t : Transfer) → leftB request t ≡ true → t .waiting .0 ≤ patience

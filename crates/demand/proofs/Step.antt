@@ -11,7 +11,6 @@ use Rattle.event.specs.declared.Decoded.{Decoded}
 use Rattle.event.specs.declared.Decoded.the-variants.{Is}
 use Rattle.event.specs.Decode.{ranged, lineOf, rowOf, decodeOf}
 use Rattle.event.specs.Answer.{numberOf}
-use Rattle.chain.specs.declared.Chain.{Chain}
 use Rattle.chain.specs.declared.Deed.{Deed}
 use Rattle.chain.specs.declared.Deed.the-variants.{Say, Read, Write}
 use Rattle.chain.specs.Deeds.{fileAfter}
@@ -19,6 +18,7 @@ use Rattle.chain.specs.Apply.{applied}
 use Rattle.chain.specs.Sound.{soundB}
 use Rattle.board.specs.declared.Stepped.{Stepped}
 use Rattle.board.specs.Step.{performed, goOf, goFile, decodedOf, decodedFile, stepOf, stepFile}
+use Rattle.laws.proofs.Kept.{sound-kept}
 use Rattle.exchange.specs.Host.{Signal, level, ask, micros, Bit, Gap, Sending, high, exchanges}
 use Rattle.exchange.specs.Waits.{sum, BitsFit, GapsFit, InTime, Each, EachOfBits, EachOfGaps, EachWait}
 use Rattle.exchange.proofs.Like.{Alike, exchanges-like}
@@ -87,29 +87,28 @@ one-bit : (x : Bool) → high x ≤ 1
 one-bit true = omega arith
 one-bit false = omega arith
 
-module _ (kept : (kind a b : ℕ) (c : Chain) (file : List ℕ) → soundB c ≡ true → soundB (stepOf kind a b c file .chain) ≡ true) where
-  abbrev Same : Lent → Lent → Type 0
-  Same s t = (s ≡ t) × (soundB (s .chain) ≡ true) × (length (s .file) ≡ s .chain .length .0)
+abbrev Same : Lent → Lent → Type 0
+Same s t = (s ≡ t) × (soundB (s .chain) ≡ true) × (length (s .file) ≡ s .chain .length .0)
 
-  still-sound : (e : Signal) (s : Lent) → InRange e → soundB (s .chain) ≡ true → length (s .file) ≡ s .chain .length .0 → soundB (decided .after e s .chain) ≡ true
-  still-sound e s f h l = ap (λ (x : Lent). soundB (x .chain)) (after-is e s f h l) ∙ kept (kindOf e) (operandOf e) 0 (s .chain) (s .file) h
+still-sound : (e : Signal) (s : Lent) → InRange e → soundB (s .chain) ≡ true → length (s .file) ≡ s .chain .length .0 → soundB (decided .after e s .chain) ≡ true
+still-sound e s f h l = ap (λ (x : Lent). soundB (x .chain)) (after-is e s f h l) ∙ sound-kept (s .chain) h (kindOf e) (operandOf e) 0 (s .file)
 
-  alike : Alike decided stepped Same InRange
-  alike = record {
-    levels = one-bit;
-    edges = one-bit;
-    after = λ e s t f l. (after-is e s f (l .1) (l .2) ∙ ap (stepped .after e) (l .0), still-sound e s f (l .1) (l .2), still-long e s f (l .1) (l .2));
-    answer = λ e s t f l. answer-is e s f (l .1) (l .2) ∙ ap (stepped .answer e) (l .0);
-    acknowledged = λ s t l. ap (stepped .acknowledged) (l .0);
-    responds = λ s t l. ap (stepped .responds) (l .0);
-    status = λ s t l. ap (stepped .status) (l .0);
-  }
+alike : Alike decided stepped Same InRange
+alike = record {
+  levels = one-bit;
+  edges = one-bit;
+  after = λ e s t f l. (after-is e s f (l .1) (l .2) ∙ ap (stepped .after e) (l .0), still-sound e s f (l .1) (l .2), still-long e s f (l .1) (l .2));
+  answer = λ e s t f l. answer-is e s f (l .1) (l .2) ∙ ap (stepped .answer e) (l .0);
+  acknowledged = λ s t l. ap (stepped .acknowledged) (l .0);
+  responds = λ s t l. ap (stepped .responds) (l .0);
+  status = λ s t l. ap (stepped .status) (l .0);
+}
 
-  -- demand 3 by `board::step`; each wait in front of the first rise is one that an event can have
-  pub step-demand-3 : (w : Sending) (d : Lent) → InTime w → Each (λ us. us ≤ 65_535) (w .first .before) → Each (λ us. us ≤ 65_535) (w .first .settle)
-      → Resting (d .chain) → length (d .file) ≡ d .chain .length .0 → exchanges stepped w d ≡ atOnce w d
-  step-demand-3 w d fit before settle r l =
-      let each : EachWait (λ us. us ≤ 65_535) w = ((before, settle, small (w .first .up) (fit .first), small-bits (w .more) (fit .bits)), small-gaps (w .gaps) (fit .gaps)) in
-      let e = exchanges-like decided stepped Same InRange alike w d d each (refl, r .sound, l) in
-      (λ i. record { now = sym (e .now .0) i; answers = sym (e .answers) i; response = sym (e .response) i })
-      ∙ demand-3 w d fit r
+-- demand 3 by `board::step`; each wait in front of the first rise is one that an event can have
+pub step-demand-3 : (w : Sending) (d : Lent) → InTime w → Each (λ us. us ≤ 65_535) (w .first .before) → Each (λ us. us ≤ 65_535) (w .first .settle)
+    → Resting (d .chain) → length (d .file) ≡ d .chain .length .0 → exchanges stepped w d ≡ atOnce w d
+step-demand-3 w d fit before settle r l =
+    let each : EachWait (λ us. us ≤ 65_535) w = ((before, settle, small (w .first .up) (fit .first), small-bits (w .more) (fit .bits)), small-gaps (w .gaps) (fit .gaps)) in
+    let e = exchanges-like decided stepped Same InRange alike w d d each (refl, r .sound, l) in
+    (λ i. record { now = sym (e .now .0) i; answers = sym (e .answers) i; response = sym (e .response) i })
+    ∙ demand-3 w d fit r

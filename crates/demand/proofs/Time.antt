@@ -4,10 +4,9 @@ use native.Mathlib.Omega.{arith}
 use mathlib.Core.Path.{_≡_, refl, sym, ap, _∙_}
 use mathlib.Core.Bool.{true, false}
 use mathlib.Core.List.{List, [], _∷_}
-use lib.ListN.{length, getD}
-use borrow.Author.Tests.{eqb-true, eq-eqb}
+use lib.ListN.{length}
+use borrow.Author.Tests.{eq-eqb}
 use Rattle.handshake.specs.Transfer.{openB}
-use Rattle.pack.specs.declared.Pack.{Pack}
 use Rattle.pack.specs.Packs.{noPack}
 use Rattle.drive.specs.declared.State.{State}
 use Rattle.drive.specs.State.{blankState}
@@ -18,15 +17,15 @@ use Rattle.chain.specs.declared.Chain.{Chain}
 use Rattle.chain.specs.Record.{slotPack, slotState, fittedB}
 use Rattle.chain.specs.Decide as chain
 use Rattle.chain.specs.Apply.{passSlot, changedOf, applied}
-use Rattle.chain.specs.Sound.{driveB, soundB}
-use Rattle.chain.proofs.Facts.{sound}
+use Rattle.chain.specs.Sound.{soundB}
+use Rattle.chain.proofs.Facts.{state-there}
 use Rattle.exchange.specs.Host.{micros, Going, going, sends, waits}
 use Rattle.exchange.specs.Waits.{sum}
 use Rattle.demand.specs.Decided.{Lent, decided}
 use Rattle.demand.specs.AtOnce.{passed}
-use Rattle.demand.proofs.Slots.{map-map, map-at, as-long}
+use Rattle.demand.proofs.Slots.{map-map, map-at}
 use Rattle.demand.proofs.Meets.{slot-pass-pass}
-use Rattle.demand.proofs.Here.{slot-of, inside, pack-there, state-there, none-passes}
+use Rattle.demand.proofs.Here.{there, none-passes}
 
 -- every chain, open transfers included
 pub time-splits : (s t : ℕ) (c : Chain) → passed t (passed s c) ≡ passed (s + t) c
@@ -75,14 +74,10 @@ module _ (c : Chain) (h : soundB c ≡ true) (k us : ℕ) (fitted : fittedB (slo
   in-slot : slotState (passed us c .states) k ≡ time.passOf (record { 0 = us }) (slotState (c .states) k) .state
   unfolding applied changedOf chain.decideOf chain.passOf passSlot
   in-slot =
-      let f : slotPack (c .packs) k .fitted ≡ 1 = eqb-true _ 1 fitted in
-      let b = slot-of k (c .packs) f in
-      let g : getD (c .packs) (k - 1) noPack .fitted ≡ 1 = ap (λ (p : Pack). p .fitted) (sym (pack-there k (c .packs) b)) ∙ f in
-      let i = inside (c .packs) (k - 1) g in
-      let j = as-long (driveB (c .lines)) (c .packs) (c .states) (k - 1) (sound c h .drives) i in
-      state-there k _ b
-      ∙ map-at (passSlot (record { 0 = us })) (c .packs) (c .states) (k - 1) noPack blankState i j
-      ∙ rw (eq-eqb _ 1 g) (ap (λ (s : State). time.passOf (record { 0 = us }) s .state) (sym (state-there k (c .states) b)))
+      let at = there c k h fitted in
+      state-there k _ (at .slot)
+      ∙ map-at (passSlot (record { 0 = us })) (c .packs) (c .states) (k - 1) noPack blankState (at .packs) (at .states)
+      ∙ rw (eq-eqb _ 1 (at .fitted)) (ap (λ (s : State). time.passOf (record { 0 = us }) s .state) (sym (state-there k (c .states) (at .slot))))
 
   pub complete-in-time : openB (slotState (c .states) k .transfer) ≡ false
       → slotState (c .states) k .body .timers .busy .0 ≤ us → slotState (c .states) k .body .timers .head .0 ≤ us
