@@ -6,8 +6,9 @@ use mathlib.Core.Bool.{Bool, true, false}
 use mathlib.Core.List.{List, [], _∷_}
 use mathlib.Core.Option.{none, some}
 use lib.ListN.{length, getD, set}
-use borrow.Author.Tests.{eq-eqb}
+use borrow.Author.Tests.{leb-true, eq-eqb}
 use Rattle.counts.specs.Choice.{if_then_else_}
+use Rattle.counts.proofs.Tests.{each}
 use Rattle.trailer.specs.declared.Profile.{Profile}
 use Rattle.handshake.specs.Transfer.{wordBits, noTransfer}
 use Rattle.pack.specs.Packs.{noPack}
@@ -17,6 +18,7 @@ use Rattle.drive.specs.State.{blankState, stateOf}
 use Rattle.drive.specs.Faults.{latchBit}
 use Rattle.drive.specs.Status.{calmB, completeB}
 use Rattle.drive.specs.Time as time
+use Rattle.unit.specs.Sound.{lineTests}
 use Rattle.unit.proofs.Facts.{Selected}
 use Rattle.word.specs.declared.Told.{Told}
 use Rattle.word.specs.declared.Told.the-variants.{Nothing, Word}
@@ -29,9 +31,9 @@ use Rattle.chain.specs.Decision.{outcomeAnswer}
 use Rattle.chain.specs.Signals.{with-command, with-request}
 use Rattle.chain.specs.Decide as chain
 use Rattle.chain.specs.Apply.{putOf, passSlot, changedOf, applied}
-use Rattle.chain.proofs.Facts.{state-there, chosen}
-use Rattle.exchange.specs.Host.{Sending, high, Exchanged, exchanges}
-use Rattle.exchange.specs.Waits.{wordOf, lastOf, lowTime, sentTime, fetchTime, lowCount, sentCount, fetchCount, InTime, bitsOf}
+use Rattle.chain.proofs.Facts.{sound, state-there, chosen}
+use Rattle.exchange.specs.Host.{Sending, Exchanged, exchanges}
+use Rattle.exchange.specs.Waits.{levelOf, sentLevel, fetchLevel, wordOf, bitsOf, timeOf, sentTime, fetchTime, sentCount, fetchCount, InTime}
 use Rattle.exchange.specs.Unit.{Wired, unit}
 use Rattle.exchange.specs.AtOnce as alone
 use Rattle.exchange.proofs.Like.{exchanges-like, any-waits}
@@ -154,11 +156,18 @@ module _ (w : Sending) (d : Lent) (fit : InTime w) (r : Resting (d .chain)) wher
   abbrev p₀ : Profile
   p₀ = lookOf c₀ .profile
 
+  abbrev l₀ : ℕ
+  l₀ = c₀ .lines .command
+
   abbrev n₀ : ℕ
-  n₀ = wordOf w
+  n₀ = wordOf l₀ w
 
   abbrev t₀ : ℕ
-  t₀ = lowTime (w .first)
+  t₀ = timeOf (w .first .low)
+
+  -- "0/1", of a sound record's lines
+  one : l₀ ≤ 1
+  one = leb-true l₀ 1 (each (lineTests (c₀ .lines)) (sound c₀ (r .sound) .lines) .1 .1 .1 .1 .0)
 
   -- the selected drive at the first rise
   abbrev body₀ : Body
@@ -168,12 +177,12 @@ module _ (w : Sending) (d : Lent) (fit : InTime w) (r : Resting (d .chain)) wher
   abbrev lent : Exchanged (Wired Body) → Exchanged Lent
   lent x = record { now = around c₀ (d .file) (x .now); answers = x .answers; response = x .response }
 
-  by-unit : exchanges decided w d ≡ lent (alone.atOnce (drive p₀) w (driveOf c₀ .body))
+  by-unit : exchanges decided w d ≡ lent (alone.atOnce (drive p₀) w l₀ (driveOf c₀ .body))
   by-unit =
       let e = exchanges-like (unit (drive p₀)) decided (Like c₀ (d .file) here₀ (r .selected) (r .writegate) (r .readgate)) (Fine c₀ (d .file) here₀ (r .selected) (r .writegate) (r .readgate))
       (alike c₀ (d .file) here₀ (r .selected) (r .writegate) (r .readgate)) w start d (any-waits w) (at-start c₀ (d .file) r) in
       (λ i. record { now = sym (e .now) i; answers = sym (e .answers) i; response = sym (e .response) i })
-      ∙ ap lent (at-once (drive p₀) (drive-laws p₀) w (driveOf c₀ .body) (c₀ .lines .command) fit)
+      ∙ ap lent (at-once (drive p₀) (drive-laws p₀) w (driveOf c₀ .body) l₀ fit one)
     where
       here₀ : Here c₀ (c₀ .lines .select)
       here₀ = here c₀ (r .sound) (r .selected)
@@ -182,10 +191,10 @@ module _ (w : Sending) (d : Lent) (fit : InTime w) (r : Resting (d .chain)) wher
       start = alone.rests (driveOf c₀ .body) (c₀ .lines .command) 0
 
   -- "A drive not complete at the first rise refuses both ways alike"
-  refused-alike : calmB body₀ ≡ false → lent (alone.refused (drive p₀) w body₀) ≡ refused w d
+  refused-alike : calmB body₀ ≡ false → lent (alone.refused w l₀ (latchBit 6 body₀)) ≡ refused w d
   refused-alike q = λ i. record {
-    now = ended c₀ (d .file) r t₀ n₀ (high (w .first .bit)) (latchBit 6 body₀) (refuses c₀ (d .file) r t₀ n₀ q) i;
-    answers = 0 ∷ 5 ∷ alone.zeros (lowCount (w .first)) [];
+    now = ended c₀ (d .file) r t₀ n₀ (levelOf l₀ (w .first .low)) (latchBit 6 body₀) (refuses c₀ (d .file) r t₀ n₀ q) i;
+    answers = 0 ∷ 5 ∷ alone.zeros (length (w .first .low)) [];
     response = none;
   }
 
@@ -200,20 +209,21 @@ module _ (w : Sending) (d : Lent) (fit : InTime w) (r : Resting (d .chain)) wher
     fall : alone.fallAnswer (carriedBy (carryOf p₀ body₀ n₀)) ≡ fallAnswer n₀ (risen w d)
     fall = sym (fall-is c₀ (d .file) r t₀ n₀)
 
-    carried-alike : (t : Told) → lent (alone.done w (carriedBy (carryOf p₀ body₀ n₀)) (toldOf t)) ≡ carried w d t
+    carried-alike : (t : Told) → lent (alone.done w l₀ (carriedBy (carryOf p₀ body₀ n₀)) (toldOf t)) ≡ carried w d t
     carried-alike Nothing =
         let us = sentTime (w .first) (w .more) in
-        let h = low-first (w .first) (w .more) in
+        let last = sentLevel l₀ (w .first ∷ w .more) in
         λ i. record {
-          now = ended c₀ (d .file) r us n₀ (lastOf (w .first) (w .more)) (carryOf p₀ body₀ n₀ .body) (later us h) i;
+          now = ended c₀ (d .file) r us n₀ last (carryOf p₀ body₀ n₀ .body) (later us (low-first (w .first) (w .more))) i;
           answers = fall i ∷ alone.zeros (sentCount (w .first) (w .more)) [];
           response = none;
         }
     carried-alike (Word x) =
         let us = sentTime (w .first) (w .more) + fetchTime (w .gaps) in
+        let last = fetchLevel (sentLevel l₀ (w .first ∷ w .more)) (w .gaps) in
         let h : t₀ ≤ us = omega (arith, low-first (w .first) (w .more)) in
         λ i. record {
-          now = ended c₀ (d .file) r us n₀ (lastOf (w .first) (w .more)) (carryOf p₀ body₀ n₀ .body) (later us h) i;
+          now = ended c₀ (d .file) r us n₀ last (carryOf p₀ body₀ n₀ .body) (later us h) i;
           answers = alone.zeros (fetchCount (w .gaps)) (fall i ∷ alone.zeros (sentCount (w .first) (w .more)) []);
           response = some (bitsOf wordBits x);
         }
@@ -222,7 +232,7 @@ module _ (w : Sending) (d : Lent) (fit : InTime w) (r : Resting (d .chain)) wher
     told = sym (ap (λ (a : Answered). a .told) (carries c₀ (d .file) r t₀ n₀ q))
 
   alike-by : (t : Bool) → calmB body₀ ≡ t
-      → lent (if t then alone.carries w (carriedBy (carryOf p₀ body₀ n₀)) else alone.refused (drive p₀) w body₀)
+      → lent (if t then alone.carries w l₀ (carriedBy (carryOf p₀ body₀ n₀)) else alone.refused w l₀ (latchBit 6 body₀))
       ≡ (if t then carried w d (plain n₀ (risen w d) .told) else refused w d)
   alike-by true q = carried-alike q (carryOf p₀ body₀ n₀ .told) ∙ ap (carried w d) (told q)
   alike-by false q = refused-alike q

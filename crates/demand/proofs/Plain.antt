@@ -22,7 +22,7 @@ use Rattle.word.specs.declared.Told.the-variants.{Nothing}
 use Rattle.word.specs.Rules.{answered, carryOf, plainOf}
 use Rattle.keeps.proofs.Time.{calm-stays, body-twice}
 use Rattle.exchange.specs.Host.{Bit}
-use Rattle.exchange.specs.Waits.{lowTime, sentTime}
+use Rattle.exchange.specs.Waits.{timeOf, sentTime}
 
 module _ (p : Profile) (n : ℕ) (b : Body) (reading : b .reading ≡ 0) (writing : b .writing ≡ 0) where
   pub plain-carries : calmB b ≡ true → plainOf p (stateOf b noTransfer) n ≡ answered (carryOf p b n .told) (stateOf (carryOf p b n .body) noTransfer)
@@ -72,6 +72,6 @@ module _ (p : Profile) (l : Lines) (s : State) (f : Selected p l s) where
       flag (s .body .writing) (eqb (s .body .writing) 1) refl (limits p (s .body) (f .limits) .writing)
       (λ one. omega (arith, off, writes p l s (f .writing) one .gate))
 
-pub low-first : (x : Bit) (xs : List Bit) → lowTime x ≤ sentTime x xs
+pub low-first : (x : Bit) (xs : List Bit) → timeOf (x .low) ≤ sentTime x xs
 low-first x [] = omega arith
 low-first x (y ∷ ys) = omega arith

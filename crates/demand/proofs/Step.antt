@@ -19,8 +19,8 @@ use Rattle.chain.specs.Sound.{soundB}
 use Rattle.board.specs.declared.Stepped.{Stepped}
 use Rattle.board.specs.Step.{performed, goOf, goFile, decodedOf, decodedFile, stepOf, stepFile}
 use Rattle.laws.proofs.Kept.{sound-kept}
-use Rattle.exchange.specs.Host.{Signal, level, ask, micros, Bit, Gap, Sending, high, exchanges}
-use Rattle.exchange.specs.Waits.{sum, BitsFit, GapsFit, InTime, Each, EachOfBits, EachOfGaps, EachWait}
+use Rattle.exchange.specs.Host.{Signal, level, ask, micros, Still, waits, sets, Bit, Gap, Sending, high, exchanges}
+use Rattle.exchange.specs.Waits.{timeOf, BitsFit, GapsFit, InTime, Each, EachOfBits, EachOfGaps, EachWait}
 use Rattle.exchange.proofs.Like.{Alike, exchanges-like}
 use Rattle.demand.specs.Decided.{Lent, eventOf, decisionOf, decided}
 use Rattle.demand.specs.AtOnce.{Resting, atOnce}
@@ -67,21 +67,23 @@ module _ (e : Signal) (d : Lent) (f : InRange e) (s : soundB (d .chain) ≡ true
   unfolding applied
   still-long = as-long (decisionOf e d .deed) (d .file) ∙ l
 
-small : (ws : List ℕ) → sum ws ≤ patience → Each (λ us. us ≤ 65_535) ws
-small [] h = tt
-small (w ∷ ws) h = (omega arith, small ws (omega arith))
+abbrev Short : ℕ → Type 0
+Short us = us ≤ 65_535
 
-small-bits : (xs : List Bit) → BitsFit xs → EachOfBits (λ us. us ≤ 65_535) xs
-small-bits [] f = tt
-small-bits (x ∷ xs) f =
-    let low = f .0 in
-    (small (x .before) (omega arith), small (x .settle) (omega arith), small (x .up) (f .1), small-bits xs (f .2))
+short : (xs : List Still) → timeOf xs ≤ patience → Each Short xs
+short [] h = tt
+short (waits us ∷ xs) h = (omega arith, short xs (omega arith))
+short (sets x ∷ xs) h = short xs h
 
-small-gaps : (gs : List Gap) → GapsFit gs → EachOfGaps (λ us. us ≤ 65_535) gs
-small-gaps [] f = tt
-small-gaps (g ∷ gs) f =
+short-bits : (xs : List Bit) → BitsFit xs → EachOfBits Short xs
+short-bits [] f = tt
+short-bits (x ∷ xs) f = (short (x .low) (f .0), short (x .up) (f .1), short-bits xs (f .2))
+
+short-gaps : (gs : List Gap) → GapsFit gs → EachOfGaps Short gs
+short-gaps [] f = tt
+short-gaps (g ∷ gs) f =
     let up = f .1 in
-    (small (g .before) (f .0), small (g .early) (omega arith), small (g .late) (omega arith), small-gaps gs (f .2))
+    (short (g .low) (f .0), short (g .early) (omega arith), short (g .late) (omega arith), short-gaps gs (f .2))
 
 one-bit : (x : Bool) → high x ≤ 1
 one-bit true = omega arith
@@ -105,10 +107,10 @@ alike = record {
 }
 
 -- demand 3 by `board::step`; each wait in front of the first rise is one that an event can have
-pub step-demand-3 : (w : Sending) (d : Lent) → InTime w → Each (λ us. us ≤ 65_535) (w .first .before) → Each (λ us. us ≤ 65_535) (w .first .settle)
+pub step-demand-3 : (w : Sending) (d : Lent) → InTime w → Each (λ us. us ≤ 65_535) (w .first .low)
     → Resting (d .chain) → length (d .file) ≡ d .chain .length .0 → exchanges stepped w d ≡ atOnce w d
-step-demand-3 w d fit before settle r l =
-    let each : EachWait (λ us. us ≤ 65_535) w = ((before, settle, small (w .first .up) (fit .first), small-bits (w .more) (fit .bits)), small-gaps (w .gaps) (fit .gaps)) in
+step-demand-3 w d fit low r l =
+    let each : EachWait Short w = ((low, short (w .first .up) (fit .first), short-bits (w .more) (fit .bits)), short-gaps (w .gaps) (fit .gaps)) in
     let e = exchanges-like decided stepped Same InRange alike w d d each (refl, r .sound, l) in
     (λ i. record { now = sym (e .now .0) i; answers = sym (e .answers) i; response = sym (e .response) i })
     ∙ demand-3 w d fit r

@@ -3,7 +3,7 @@ use Prim.Native.Nat.{ℕ, _+_, _-_, _≤_}
 use native.Mathlib.Omega.{arith}
 use mathlib.Core.Path.{_≡_, refl, sym, ap, _∙_}
 use mathlib.Core.Bool.{true, false}
-use mathlib.Core.List.{List, [], _∷_}
+use mathlib.Core.List.{List, [], _∷_, map}
 use lib.ListN.{length}
 use borrow.Author.Tests.{eq-eqb}
 use Rattle.handshake.specs.Transfer.{openB}
@@ -19,8 +19,8 @@ use Rattle.chain.specs.Decide as chain
 use Rattle.chain.specs.Apply.{passSlot, changedOf, applied}
 use Rattle.chain.specs.Sound.{soundB}
 use Rattle.chain.proofs.Facts.{state-there}
-use Rattle.exchange.specs.Host.{micros, Going, going, sends, waits}
-use Rattle.exchange.specs.Waits.{sum}
+use Rattle.exchange.specs.Host.{micros, Still, waits, Going, going, sends, goes}
+use Rattle.exchange.specs.Waits.{timeOf}
 use Rattle.demand.specs.Decided.{Lent, decided}
 use Rattle.demand.specs.AtOnce.{passed}
 use Rattle.demand.proofs.Slots.{map-map, map-at}
@@ -49,23 +49,26 @@ one-pass : (us : ℕ) (c : Chain) (file log : List ℕ)
 unfolding chain.decideOf chain.passOf
 one-pass us c file log = refl
 
+abbrev waiting : List ℕ → List Still
+waiting ws = map (λ (us : ℕ). waits us) ws
+
 passes-on : (ws : List ℕ) (s : ℕ) (c : Chain) (file log : List ℕ)
-    → waits decided ws (going (lent (passed s c) file) log) .now ≡ lent (passed (s + sum ws) c) file
+    → goes decided (waiting ws) (going (lent (passed s c) file) log) .now ≡ lent (passed (s + timeOf (waiting ws)) c) file
 passes-on [] s c file log = let none : s + 0 ≡ s = omega arith in λ i. lent (passed (sym none i) c) file
 passes-on (w ∷ ws) s c file log =
-    let all : s + w + sum ws ≡ s + (w + sum ws) = omega arith in
+    let all : s + w + timeOf (waiting ws) ≡ s + (w + timeOf (waiting ws)) = omega arith in
     let more : List ℕ = decided .answer (micros w) (lent (passed s c) file) ∷ log in
-    ap (λ (g : Going Lent). waits decided ws g .now)
+    ap (λ (g : Going Lent). goes decided (waiting ws) g .now)
     (one-pass w (passed s c) file log ∙ (λ i. going (lent (time-splits s w c i) file) more))
     ∙ passes-on ws (s + w) c file more
     ∙ (λ i. lent (passed (all i) c) file)
 
 -- a list of passing events on a sound chain is their sum
 pub waits-pass : (ws : List ℕ) (c : Chain) (file log : List ℕ) → soundB c ≡ true
-    → waits decided ws (going (lent c file) log) .now ≡ lent (passed (sum ws) c) file
+    → goes decided (waiting ws) (going (lent c file) log) .now ≡ lent (passed (timeOf (waiting ws)) c) file
 waits-pass ws c file log h =
-    let all : 0 + sum ws ≡ sum ws = omega arith in
-    ap (λ (c′ : Chain). waits decided ws (going (lent c′ file) log) .now) (sym (no-time c h))
+    let all : 0 + timeOf (waiting ws) ≡ timeOf (waiting ws) = omega arith in
+    ap (λ (c′ : Chain). goes decided (waiting ws) (going (lent c′ file) log) .now) (sym (no-time c h))
     ∙ passes-on ws 0 c file log
     ∙ (λ i. lent (passed (all i) c) file)
 

@@ -2,8 +2,9 @@
 use Prim.Native.Nat.{ℕ, _+_}
 use mathlib.Core.Path.{_≡_}
 use mathlib.Core.Bool.{true, false}
-use mathlib.Core.List.{[], _∷_}
+use mathlib.Core.List.{List, [], _∷_}
 use mathlib.Core.Option.{none, some}
+use lib.ListN.{length}
 use Rattle.counts.specs.Choice.{if_then_else_}
 use Rattle.handshake.specs.Transfer.{wordBits, openB}
 use Rattle.drive.specs.Status.{completeB}
@@ -20,8 +21,8 @@ use Rattle.chain.specs.Signals.{with-command}
 use Rattle.chain.specs.Decide.{decideOf}
 use Rattle.chain.specs.Apply.{putOf, applied}
 use Rattle.chain.specs.Sound.{soundB}
-use Rattle.exchange.specs.Host.{Sending, high, Exchanged}
-use Rattle.exchange.specs.Waits.{wordOf, bitsOf, lastOf, lowTime, sentTime, fetchTime, lowCount, sentCount, fetchCount}
+use Rattle.exchange.specs.Host.{Sending, Exchanged}
+use Rattle.exchange.specs.Waits.{levelOf, sentLevel, fetchLevel, wordOf, bitsOf, timeOf, sentTime, fetchTime, sentCount, fetchCount}
 use Rattle.exchange.specs.AtOnce.{zeros}
 use Rattle.demand.specs.Decided.{Lent, driveOf}
 
@@ -56,9 +57,17 @@ abbrev pub fallAnswer : ℕ → Chain → ℕ
 fallAnswer n c = numberOf (outcomeAnswer (carryOf (lookOf c .profile) (driveOf c .body) n .outcome))
 
 module _ (w : Sending) (d : Lent) where
+  -- the data level before
+  abbrev pub level : ℕ
+  level = d .chain .lines .command
+
+  -- the word sent
+  abbrev pub word : ℕ
+  word = wordOf level w
+
   -- the chain at the first rise
   abbrev pub risen : Chain
-  risen = passed (lowTime (w .first)) (d .chain)
+  risen = passed (timeOf (w .first .low)) (d .chain)
 
   -- and when the word has been sent, its response fetched
   abbrev pub sent : Chain
@@ -67,26 +76,33 @@ module _ (w : Sending) (d : Lent) where
   abbrev pub fetched : Chain
   fetched = passed (sentTime (w .first) (w .more) + fetchTime (w .gaps)) (d .chain)
 
+  abbrev pub lastLevel : ℕ
+  lastLevel = sentLevel level (w .first ∷ w .more)
+
+  -- 0 at every event but perhaps the 17th fall
+  abbrev pub answers : List ℕ
+  answers = fallAnswer word risen ∷ zeros (sentCount (w .first) (w .more)) []
+
   -- not complete at the first rise: bit 6, answered 5; request falls at once, and no later wait counts
   abbrev pub refused : Exchanged Lent
   refused = record {
-    now = record { chain = given (wordOf w) (high (w .first .bit)) risen; file = d .file };
-    answers = 0 ∷ 5 ∷ zeros (lowCount (w .first)) [];
+    now = record { chain = given word (levelOf level (w .first .low)) risen; file = d .file };
+    answers = 0 ∷ 5 ∷ zeros (length (w .first .low)) [];
     response = none;
   }
 
   -- carried out, with no response or with one: seventeen bits, parity last
   abbrev pub carried : Told → Exchanged Lent
   carried Nothing = record {
-    now = record { chain = given (wordOf w) (lastOf (w .first) (w .more)) sent; file = d .file };
-    answers = fallAnswer (wordOf w) risen ∷ zeros (sentCount (w .first) (w .more)) [];
+    now = record { chain = given word lastLevel sent; file = d .file };
+    answers = answers;
     response = none;
   }
   carried (Word r) = record {
-    now = record { chain = given (wordOf w) (lastOf (w .first) (w .more)) fetched; file = d .file };
-    answers = zeros (fetchCount (w .gaps)) (fallAnswer (wordOf w) risen ∷ zeros (sentCount (w .first) (w .more)) []);
+    now = record { chain = given word (fetchLevel lastLevel (w .gaps)) fetched; file = d .file };
+    answers = zeros (fetchCount (w .gaps)) answers;
     response = some (bitsOf wordBits r);
   }
 
   abbrev pub atOnce : Exchanged Lent
-  atOnce = if completeB (driveOf risen) then carried (plain (wordOf w) risen .told) else refused
+  atOnce = if completeB (driveOf risen) then carried (plain word risen .told) else refused

@@ -1,5 +1,5 @@
 -- Seventeen bits sent by the handshake, the response fetched, are the word given at once: for any unit that keeps the laws.
-use Prim.Native.Nat.{ℕ, suc, _+_}
+use Prim.Native.Nat.{ℕ, suc, _+_, _*_, _≤_}
 use native.Mathlib.Omega.{arith}
 use mathlib.Core.Path.{_≡_, refl, ap, _∙_}
 use mathlib.Core.Bool.{Bool, true, false}
@@ -8,57 +8,56 @@ use mathlib.Core.Option.{Option, none, some}
 use lib.ListN.{length}
 use Rattle.counts.specs.Choice.{if_then_else_}
 use Rattle.handshake.specs.Transfer.{noTransfer}
-use Rattle.exchange.specs.Host.{level, ask, Sending, high, Going, going, exchanged, sends, waits, raises, replies, goesOn, exchanges}
-use Rattle.exchange.specs.Waits.{wordOf, bitsOf, lastOf, sum, lowTime, sentTime, fetchTime, lowCount, sentCount, fetchCount, InTime}
+use Rattle.exchange.specs.Host.{ask, Sending, Going, going, exchanged, sends, raises, replies, goesOn, exchanges}
+use Rattle.exchange.specs.Waits.{levelOf, sentLevel, fetchLevel, wordOf, bitsOf, timeOf, sentTime, fetchTime, sentCount, fetchCount, InTime}
 use Rattle.exchange.specs.Unit.{Carried, Rules, Wired, wired, afterWord, unit}
 use Rattle.exchange.specs.AtOnce.{zeros, rests, fallAnswer, refused, done, carries, atOnce}
 use Rattle.exchange.proofs.Laws.{Laws}
 use Rattle.exchange.proofs.Steps.{bitsIn, first-rise, busy-rise, none-fall}
-use Rattle.exchange.proofs.Waiting.{recount, rest-waits}
-use Rattle.exchange.proofs.Sent.{high-small, carried-at, sent}
+use Rattle.exchange.proofs.Waiting.{recount, rest-goes}
+use Rattle.exchange.proofs.Sent.{level-small, carried-at, sent}
 use Rattle.exchange.proofs.Fetched.{fetched, seen}
 
-module _ {B : Type 0} (R : Rules B) (L : Laws R) (w : Sending) (b : B) (c : ℕ) where
-  abbrev level₁ : ℕ
-  level₁ = high (w .first .bit)
+module _ {B : Type 0} (R : Rules B) (L : Laws R) (w : Sending) (b : B) (l : ℕ) where
+  -- the data level and the time at the first rise
+  abbrev l₁ : ℕ
+  l₁ = levelOf l (w .first .low)
+
+  abbrev t₁ : ℕ
+  t₁ = timeOf (w .first .low)
+
+  abbrev n₁ : ℕ
+  n₁ = length (w .first .low)
 
   abbrev b₁ : B
-  b₁ = R .pass (lowTime (w .first)) b
+  b₁ = R .pass t₁ b
 
   -- what stands when request rises for the first time
   abbrev ready : Going (Wired B)
-  ready = going (wired b₁ noTransfer level₁ 0 (lowTime (w .first))) (zeros (lowCount (w .first)) [])
+  ready = going (wired b₁ noTransfer l₁ 0 t₁) (zeros n₁ [])
 
-  to-rise : raises (unit R) (w .first) (going (rests b c 0) []) ≡ sends (unit R) (ask 1) ready
+  to-rise : raises (unit R) (w .first .low) (going (rests b l 0) []) ≡ sends (unit R) (ask 1) ready
   to-rise =
-      let x = w .first in
-      let e : 0 + sum (x .before) + sum (x .settle) ≡ lowTime x = omega arith in
-      let n : suc (0 + length (x .before)) + length (x .settle) ≡ lowCount x = omega arith in
-      ap (λ (g : Going (Wired B)). sends (unit R) (ask 1) (waits (unit R) (x .settle) (sends (unit R) (level level₁) g)))
-      (rest-waits R L (x .before) b c 0 0 0 [])
-      ∙ ap (sends (unit R) (ask 1))
-      (rest-waits R L (x .settle) (R .pass (sum (x .before)) b) level₁ 0 (0 + sum (x .before)) (suc (0 + length (x .before))) [])
-      ∙ (λ i. sends (unit R) (ask 1) (going (wired (L .pass-pass (sum (x .before)) (sum (x .settle)) b i) noTransfer level₁ 0 (e i)) (zeros (n i) [])))
+      ap (sends (unit R) (ask 1))
+      (rest-goes R L (w .first .low) b l 0 0 0 [] ∙ recount b₁ noTransfer l₁ 0 [] (0 + t₁) t₁ (0 + n₁) n₁ (omega arith) (omega arith))
 
   -- not complete: bit 6, no acknowledge, and the host ends
-  refuses : R .calm b₁ ≡ false
-      → sends (unit R) (ask 1) ready ≡ going (wired (R .fault b₁) noTransfer level₁ 1 (lowTime (w .first))) (5 ∷ zeros (lowCount (w .first)) [])
-  refuses q = rw (q, busy-rise level₁)
+  refuses : R .calm b₁ ≡ false → sends (unit R) (ask 1) ready ≡ going (wired (R .fault b₁) noTransfer l₁ 1 t₁) (5 ∷ zeros n₁ [])
+  refuses q = rw (q, busy-rise l₁)
 
-  turned-away : R .calm b₁ ≡ false → exchanges (unit R) w (rests b c 0) ≡ refused R w b₁
+  turned-away : R .calm b₁ ≡ false → exchanges (unit R) w (rests b l 0) ≡ refused w l (R .fault b₁)
   turned-away q = ap (goesOn (unit R) w) (to-rise ∙ refuses q) ∙ rw none-fall
 
   -- complete: the first bit is taken
-  takes : R .calm b₁ ≡ true
-      → sends (unit R) (ask 1) ready ≡ going (wired b₁ (bitsIn 1 level₁ 1 0) level₁ 1 (lowTime (w .first))) (0 ∷ zeros (lowCount (w .first)) [])
-  takes q = rw (q, first-rise level₁)
+  takes : R .calm b₁ ≡ true → sends (unit R) (ask 1) ready ≡ going (wired b₁ (bitsIn 1 (0 * 2 + l₁) 1 0) l₁ 1 t₁) (0 ∷ zeros n₁ [])
+  takes q = rw (q, first-rise l₁)
 
-  module _ (fit : InTime w) (q : R .calm b₁ ≡ true) where
+  module _ (fit : InTime w) (one : l ≤ 1) (q : R .calm b₁ ≡ true) where
     abbrev out : Carried B
-    out = R .carry (wordOf w) b₁
+    out = R .carry (wordOf l w) b₁
 
     abbrev last : ℕ
-    last = lastOf (w .first) (w .more)
+    last = sentLevel l (w .first ∷ w .more)
 
     abbrev time : ℕ
     time = sentTime (w .first) (w .more)
@@ -66,44 +65,43 @@ module _ {B : Type 0} (R : Rules B) (L : Laws R) (w : Sending) (b : B) (c : ℕ)
     abbrev count : ℕ
     count = sentCount (w .first) (w .more)
 
-    all-sent : exchanges (unit R) w (rests b c 0) ≡ replies (unit R) (w .gaps) (carried-at R L b₁ q out last (0 + time) (0 + count))
+    all-sent : exchanges (unit R) w (rests b l 0) ≡ replies (unit R) (w .gaps) (carried-at R L b₁ q out last (0 + time) (0 + count))
     all-sent =
         ap (goesOn (unit R) w)
-        (to-rise ∙ takes q ∙ recount b₁ (bitsIn 1 level₁ 1 0) level₁ 1 [] _ (0 + lowTime (w .first)) (suc (lowCount (w .first))) (0 + lowCount (w .first) + 1) (omega arith) (omega arith))
+        (to-rise ∙ takes q ∙ recount b₁ (bitsIn 1 (0 * 2 + l₁) 1 0) l₁ 1 [] t₁ (0 + t₁) (suc n₁) (0 + n₁ + 1) (omega arith) (omega arith))
         ∙ ap (replies (unit R) (w .gaps))
-        (sent R L b₁ q (w .first) (w .more) 1 level₁ 0 0 (omega (arith, fit .seventeen)) (omega (arith, high-small (w .first .bit))) (fit .first) (fit .bits))
+        (sent R L b₁ q (w .first) (w .more) l 1 (0 * 2 + l₁) 0 0 one (omega (arith, fit .seventeen)) (omega (arith, level-small l (w .first .low) one)) (fit .first) (fit .bits))
 
     -- a response is open, or none
     answered : (t : Option ℕ) → out .told ≡ t
         → replies (unit R) (w .gaps) (going (wired (out .body) (afterWord t) last 0 (0 + time)) (fallAnswer out ∷ zeros (0 + count) []))
-        ≡ done w out t
+        ≡ done w l out t
     answered none p =
         let e : 0 + time ≡ time = omega arith in
         let n : 0 + count ≡ count = omega arith in
         λ i. exchanged (going (rests (out .body) last (e i)) (fallAnswer out ∷ zeros (n i) [])) none
     answered (some r) p =
-        let calm = L .told-calm (wordOf w) r b₁ q p in
+        let calm = L .told-calm (wordOf l w) r b₁ q p in
         let log : List ℕ = fallAnswer out ∷ zeros (0 + count) [] in
         let e : 0 + time + fetchTime (w .gaps) ≡ time + fetchTime (w .gaps) = omega arith in
         let n : 0 + count ≡ count = omega arith in
         let m : 0 + fetchCount (w .gaps) ≡ fetchCount (w .gaps) = omega arith in
         (λ i.
-        exchanged (fetched R L (out .body) calm r last log (w .gaps) 0 (0 + time) 0 (omega (arith, fit .wanted)) (fit .gaps) i)
-        (some (seen R L (out .body) calm r last log (w .gaps) 0 (0 + time) 0 (omega (arith, fit .wanted)) (fit .gaps) i)))
+        exchanged (fetched R L (out .body) calm r log (w .gaps) 0 last (0 + time) 0 (omega (arith, fit .wanted)) (fit .gaps) i)
+        (some (seen R L (out .body) calm r log (w .gaps) 0 last (0 + time) 0 (omega (arith, fit .wanted)) (fit .gaps) i)))
         ∙ (λ i.
-        exchanged (going (rests (out .body) last (e i)) (zeros (m i) (fallAnswer out ∷ zeros (n i) [])))
+        exchanged
+        (going (rests (out .body) (fetchLevel last (w .gaps)) (e i)) (zeros (m i) (fallAnswer out ∷ zeros (n i) [])))
         (some (bitsOf (fit .wanted i) r)))
 
-    taken : exchanges (unit R) w (rests b c 0) ≡ carries w out
-    taken =
-        all-sent
-        ∙ answered (out .told) refl
+    taken : exchanges (unit R) w (rests b l 0) ≡ carries w l out
+    taken = all-sent ∙ answered (out .told) refl
 
-  by-calm : InTime w → (t : Bool) → R .calm b₁ ≡ t
-      → exchanges (unit R) w (rests b c 0) ≡ (if t then carries w (R .carry (wordOf w) b₁) else refused R w b₁)
-  by-calm fit true q = taken fit q
-  by-calm fit false q = turned-away q
+  by-calm : InTime w → l ≤ 1 → (t : Bool) → R .calm b₁ ≡ t
+      → exchanges (unit R) w (rests b l 0) ≡ (if t then carries w l (R .carry (wordOf l w) b₁) else refused w l (R .fault b₁))
+  by-calm fit one true q = taken fit one q
+  by-calm fit one false q = turned-away q
 
-  -- demand 3 for one unit: whatever levels stand before and whatever the unit is, so long as no transfer is open
-  pub at-once : InTime w → exchanges (unit R) w (rests b c 0) ≡ atOnce R w b
-  at-once fit = by-calm fit (R .calm b₁) refl
+  -- demand 3 for one unit: whatever the unit is, so long as no transfer is open; l is the data level before
+  pub at-once : InTime w → l ≤ 1 → exchanges (unit R) w (rests b l 0) ≡ atOnce R w l b
+  at-once fit one = by-calm fit one (R .calm b₁) refl

@@ -5,7 +5,7 @@ use mathlib.Core.Bool.{Bool, true, false}
 use mathlib.Core.List.{List, [], _∷_}
 use mathlib.Core.Option.{Option, none, some}
 use Rattle.counts.specs.Choice.{if_then_else_}
-use Rattle.exchange.specs.Host.{Signal, level, ask, micros, Cable, Bit, Gap, Sending, high, Going, Exchanged, going, exchanged, sends, waits, raises, lowers, sendsAll, putsUp, fetches, sees, replies, goesOn, exchanges}
+use Rattle.exchange.specs.Host.{Signal, level, ask, micros, Cable, Still, waits, sets, Bit, Gap, Sending, high, Going, Exchanged, going, exchanged, sends, goes, raises, lowers, sendsAll, putsUp, fetches, sees, replies, goesOn, exchanges}
 use Rattle.exchange.specs.Waits.{Each, EachOfBits, EachOfGaps, EachWait}
 
 -- alike before a signal they are alike after it, and give the same answer; and the host sees the same of both
@@ -34,27 +34,24 @@ module _ {S T : Type 0} (C : Cable S) (D : Cable T) (Like : S → T → Type 0) 
   sends-like e g h f l =
       (A .after e (g .now) (h .now) f (l .0), ap₂ (λ (a : ℕ) (log : List ℕ). a ∷ log) (A .answer e (g .now) (h .now) f (l .0)) (l .1))
 
-  waits-like : (ws : List ℕ) (g : Going S) (h : Going T) → Each P ws → Along g h → Along (waits C ws g) (waits D ws h)
-  waits-like [] g h f l = l
-  waits-like (w ∷ ws) g h f l = waits-like ws (sends C (micros w) g) (sends D (micros w) h) (f .1) (sends-like (micros w) g h (f .0) l)
+  goes-on : (xs : List Still) (g : Going S) (h : Going T) → Each P xs → Along g h → Along (goes C xs g) (goes D xs h)
+  goes-on [] g h f l = l
+  goes-on (waits us ∷ xs) g h f l = goes-on xs (sends C (micros us) g) (sends D (micros us) h) (f .1) (sends-like (micros us) g h (f .0) l)
+  goes-on (sets x ∷ xs) g h f l =
+      goes-on xs (sends C (level (high x)) g) (sends D (level (high x)) h) f (sends-like (level (high x)) g h (A .levels x) l)
 
-  lowers-like : (ws : List ℕ) (g : Going S) (h : Going T) → Each P ws → Along g h → Along (lowers C ws g) (lowers D ws h)
-  lowers-like ws g h f l = sends-like (ask 0) (waits C ws g) (waits D ws h) (A .edges false) (waits-like ws g h f l)
+  lowers-like : (xs : List Still) (g : Going S) (h : Going T) → Each P xs → Along g h → Along (lowers C xs g) (lowers D xs h)
+  lowers-like xs g h f l = sends-like (ask 0) (goes C xs g) (goes D xs h) (A .edges false) (goes-on xs g h f l)
 
-  raises-like : (x : Bit) (g : Going S) (h : Going T) → Each P (x .before) → Each P (x .settle) → Along g h → Along (raises C x g) (raises D x h)
-  raises-like x g h f k l =
-      let a = waits-like (x .before) g h f l in
-      let b = sends-like (level (high (x .bit))) _ _ (A .levels (x .bit)) a in
-      sends-like (ask 1) _ _ (A .edges true) (waits-like (x .settle) _ _ k b)
+  raises-like : (xs : List Still) (g : Going S) (h : Going T) → Each P xs → Along g h → Along (raises C xs g) (raises D xs h)
+  raises-like xs g h f l = sends-like (ask 1) (goes C xs g) (goes D xs h) (A .edges true) (goes-on xs g h f l)
 
   all-like : (xs : List Bit) (g : Going S) (h : Going T) → EachOfBits P xs → Along g h → Along (sendsAll C xs g) (sendsAll D xs h)
   all-like [] g h f l = l
-  all-like (x ∷ xs) g h f l =
-      all-like xs _ _ (f .3) (lowers-like (x .up) _ _ (f .2) (raises-like x g h (f .0) (f .1) l))
+  all-like (x ∷ xs) g h f l = all-like xs _ _ (f .2) (lowers-like (x .up) _ _ (f .1) (raises-like (x .low) g h (f .0) l))
 
-  up-like : (x : Gap) (g : Going S) (h : Going T) → Each P (x .before) → Each P (x .early) → Along g h → Along (putsUp C x g) (putsUp D x h)
-  up-like x g h f k l =
-      waits-like (x .early) _ _ k (sends-like (ask 1) _ _ (A .edges true) (waits-like (x .before) g h f l))
+  up-like : (x : Gap) (g : Going S) (h : Going T) → Each P (x .low) → Each P (x .early) → Along g h → Along (putsUp C x g) (putsUp D x h)
+  up-like x g h f k l = goes-on (x .early) _ _ k (raises-like (x .low) g h f l)
 
   fetches-like : (gs : List Gap) (g : Going S) (h : Going T) → EachOfGaps P gs → Along g h → Along (fetches C gs g) (fetches D gs h)
   fetches-like [] g h f l = l
@@ -84,28 +81,29 @@ module _ {S T : Type 0} (C : Cable S) (D : Cable T) (Like : S → T → Type 0) 
   goes-like : (w : Sending) (g : Going S) (h : Going T) → EachWait P w → Along g h → Ended Like (goesOn C w g) (goesOn D w h)
   goes-like w g h f l =
       either (C .acknowledged (g .now)) (D .acknowledged (h .now)) _ _ _ _ (A .acknowledged (g .now) (h .now) (l .0))
-      (replies-like (w .gaps) _ _ (f .1) (all-like (w .more) _ _ (f .0 .3) (lowers-like (w .first .up) g h (f .0 .2) l)))
+      (replies-like (w .gaps) _ _ (f .1) (all-like (w .more) _ _ (f .0 .2) (lowers-like (w .first .up) g h (f .0 .1) l)))
       (ended _ _ none none (sends-like (ask 0) g h (A .edges false) l) refl)
 
   pub exchanges-like : (w : Sending) (s : S) (t : T) → EachWait P w → Like s t → Ended Like (exchanges C w s) (exchanges D w t)
   exchanges-like w s t f l =
-      goes-like w _ _ f (raises-like (w .first) (going s []) (going t []) (f .0 .0) (f .0 .1) (l, refl))
+      goes-like w _ _ f (raises-like (w .first .low) (going s []) (going t []) (f .0 .0) (l, refl))
 
 -- where nothing is asked of the waits
 abbrev pub Any : ℕ → Type 0
 Any us = Unit
 
-any-each : (ws : List ℕ) → Each Any ws
+any-each : (xs : List Still) → Each Any xs
 any-each [] = tt
-any-each (w ∷ ws) = (tt, any-each ws)
+any-each (waits us ∷ xs) = (tt, any-each xs)
+any-each (sets x ∷ xs) = any-each xs
 
 any-bits : (xs : List Bit) → EachOfBits Any xs
 any-bits [] = tt
-any-bits (x ∷ xs) = (any-each (x .before), any-each (x .settle), any-each (x .up), any-bits xs)
+any-bits (x ∷ xs) = (any-each (x .low), any-each (x .up), any-bits xs)
 
 any-gaps : (gs : List Gap) → EachOfGaps Any gs
 any-gaps [] = tt
-any-gaps (g ∷ gs) = (any-each (g .before), any-each (g .early), any-each (g .late), any-gaps gs)
+any-gaps (g ∷ gs) = (any-each (g .low), any-each (g .early), any-each (g .late), any-gaps gs)
 
 pub any-waits : (w : Sending) → EachWait Any w
 any-waits w = (any-bits (w .first ∷ w .more), any-gaps (w .gaps))

@@ -1,9 +1,8 @@
 -- What the handshake's rules do at each step of an exchange.
 use Prim.Native.Nat.{ℕ, suc, _+_, _*_, _≤_, _<_}
-use native.Mathlib.Omega.{arith}
 use native.Mathlib.Numerals.{add-one}
 use native.Mathlib.Nat.{mod-eq-of-lt}
-use mathlib.Core.Path.{_≡_, refl, ap}
+use mathlib.Core.Path.{_≡_, refl}
 use mathlib.Core.Bool.{Bool, true, false}
 use borrow.Author.Tests.{lt-ltb, le-ltb}
 use Rattle.handshake.specs.declared.Transfer.{Transfer}
@@ -18,9 +17,9 @@ bitsIn k v a w = record { waiting = record { 0 = w }; bits = v; response = 0; wa
 abbrev pub bitsOut : ℕ → ℕ → ℕ → ℕ → Transfer
 bitsOut k r a w = record { waiting = record { 0 = w }; bits = 0; response = r; way = responding; count = k; acknowledge = a }
 
-pub first-rise : (x : ℕ) → riseOf false true x noTransfer ≡ Keep (bitsIn 1 x 1 0)
+pub first-rise : (x : ℕ) → riseOf false true x noTransfer ≡ Keep (bitsIn 1 (0 * 2 + x) 1 0)
 unfolding riseOf
-first-rise x = ap (λ (n : ℕ). Keep (bitsIn 1 n 1 0)) (omega arith)
+first-rise x = refl
 
 pub busy-rise : (x : ℕ) → riseOf false false x noTransfer ≡ Drop
 unfolding riseOf

@@ -2,10 +2,11 @@
 use Prim.Native.Nat.{ℕ, zero, suc, _+_}
 use mathlib.Core.List.{List, [], _∷_}
 use mathlib.Core.Option.{Option, none, some}
+use lib.ListN.{length}
 use Rattle.counts.specs.Choice.{if_then_else_}
 use Rattle.handshake.specs.Transfer.{wordBits, noTransfer}
-use Rattle.exchange.specs.Host.{Sending, high, Exchanged, going, exchanged}
-use Rattle.exchange.specs.Waits.{wordOf, bitsOf, lastOf, lowTime, sentTime, fetchTime, lowCount, sentCount, fetchCount}
+use Rattle.exchange.specs.Host.{Sending, Exchanged, going, exchanged}
+use Rattle.exchange.specs.Waits.{levelOf, sentLevel, fetchLevel, wordOf, bitsOf, timeOf, sentTime, fetchTime, sentCount, fetchCount}
 use Rattle.exchange.specs.Unit.{Carried, Rules, Wired, wired}
 
 -- so many answers 0, on top of those given before
@@ -21,26 +22,35 @@ rests b command elapsed = wired b noTransfer command 0 elapsed
 abbrev pub fallAnswer : {B : Type 0} → Carried B → ℕ
 fallAnswer c = if c .fails then 5 else 0
 
--- not complete at the first rise: that answers 5 and latches bit 6, request falls at once, and no later wait counts
-abbrev pub refused : {B : Type 0} → Rules B → Sending → B → Exchanged (Wired B)
-refused R w b =
-    exchanged (going (rests (R .fault b) (high (w .first .bit)) (lowTime (w .first))) (0 ∷ 5 ∷ zeros (lowCount (w .first)) [])) none
+module _ (w : Sending) (l : ℕ) where
+  -- not complete at the first rise: that answers 5 and latches bit 6, request falls at once, and no later wait counts
+  abbrev pub refused : {B : Type 0} → B → Exchanged (Wired B)
+  refused b =
+      exchanged (going (rests b (levelOf l (w .first .low)) (timeOf (w .first .low))) (0 ∷ 5 ∷ zeros (length (w .first .low)) [])) none
 
--- the word carried out at its 17th fall; a response is told bit by bit, its parity last
-abbrev pub done : {B : Type 0} → Sending → Carried B → Option ℕ → Exchanged (Wired B)
-done w c none =
-    exchanged (going (rests (c .body) (lastOf (w .first) (w .more)) (sentTime (w .first) (w .more)))
-    (fallAnswer c ∷ zeros (sentCount (w .first) (w .more)) [])) none
-done w c (some r) =
-    exchanged (going (rests (c .body) (lastOf (w .first) (w .more)) (sentTime (w .first) (w .more) + fetchTime (w .gaps)))
-    (zeros (fetchCount (w .gaps)) (fallAnswer c ∷ zeros (sentCount (w .first) (w .more)) []))) (some (bitsOf wordBits r))
+  abbrev pub level : ℕ
+  level = sentLevel l (w .first ∷ w .more)
 
-abbrev pub carries : {B : Type 0} → Sending → Carried B → Exchanged (Wired B)
-carries w c = done w c (c .told)
+  abbrev pub time : ℕ
+  time = sentTime (w .first) (w .more)
 
--- given to the unit as it is at the first rise
-abbrev pub given : {B : Type 0} → Rules B → Sending → B → Exchanged (Wired B)
-given R w b = if R .calm b then carries w (R .carry (wordOf w) b) else refused R w b
+  abbrev pub answers : {B : Type 0} → Carried B → List ℕ
+  answers c = fallAnswer c ∷ zeros (sentCount (w .first) (w .more)) []
 
-abbrev pub atOnce : {B : Type 0} → Rules B → Sending → B → Exchanged (Wired B)
-atOnce R w b = given R w (R .pass (lowTime (w .first)) b)
+  -- the word carried out at its 17th fall; a response is told bit by bit, its parity last
+  abbrev pub done : {B : Type 0} → Carried B → Option ℕ → Exchanged (Wired B)
+  done c none = exchanged (going (rests (c .body) level time) (answers c)) none
+  done c (some r) =
+      exchanged
+      (going (rests (c .body) (fetchLevel level (w .gaps)) (time + fetchTime (w .gaps))) (zeros (fetchCount (w .gaps)) (answers c)))
+      (some (bitsOf wordBits r))
+
+  abbrev pub carries : {B : Type 0} → Carried B → Exchanged (Wired B)
+  carries c = done c (c .told)
+
+-- the waits in front of the first rise pass; the unit as it then is takes the word, or refuses it
+abbrev pub given : {B : Type 0} → Rules B → Sending → ℕ → B → Exchanged (Wired B)
+given R w l b = if R .calm b then carries w l (R .carry (wordOf l w) b) else refused w l (R .fault b)
+
+abbrev pub atOnce : {B : Type 0} → Rules B → Sending → ℕ → B → Exchanged (Wired B)
+atOnce R w l b = given R w l (R .pass (timeOf (w .first .low)) b)

@@ -17,28 +17,35 @@ pub record Cable (S : Type 0) : Type 0 where
   pub responds : S → Bool
   pub status : S → ℕ
 
--- a bit to send: waits in front of its data level, between level and rise, between rise and fall
-pub record Bit : Type 0 where
-  pub before : List ℕ
-  pub bit : Bool
-  pub settle : List ℕ
-  pub up : List ℕ
+abbrev pub high : Bool → ℕ
+high true = 1
+high false = 0
 
--- a bit to fetch: waits in front of the rise, between rise and the look at the line, between look and fall
+-- what the host does between one edge of request and the next, in any order: it lets time pass, and sets the data line where it needs to
+pub data Still : Type 0 where
+  waits : ℕ → Still
+  sets : Bool → Still
+
+abbrev pub signalOf : Still → Signal
+signalOf (waits us) = micros us
+signalOf (sets x) = level (high x)
+
+-- a bit to send: in front of its rise, and between rise and fall; the bit is the data level at the rise
+pub record Bit : Type 0 where
+  pub low : List Still
+  pub up : List Still
+
+-- a bit to fetch: in front of the rise, between rise and the look at the line, between look and fall
 pub record Gap : Type 0 where
-  pub before : List ℕ
-  pub early : List ℕ
-  pub late : List ℕ
+  pub low : List Still
+  pub early : List Still
+  pub late : List Still
 
 -- a word to send, and how its response will be fetched if it has one
 pub record Sending : Type 0 where
   pub first : Bit
   pub more : List Bit
   pub gaps : List Gap
-
-abbrev pub high : Bool → ℕ
-high true = 1
-high false = 0
 
 -- on the way: what there is now, and the answers given, the newest first
 pub record Going (S : Type 0) : Type 0 where
@@ -61,22 +68,22 @@ module _ {S : Type 0} (C : Cable S) where
   abbrev pub sends : Signal → Going S → Going S
   sends e g = going (C .after e (g .now)) (C .answer e (g .now) ∷ g .answers)
 
-  abbrev pub waits : List ℕ → Going S → Going S
-  waits [] g = g
-  waits (w ∷ ws) g = waits ws (sends (micros w) g)
+  abbrev pub goes : List Still → Going S → Going S
+  goes [] g = g
+  goes (x ∷ xs) g = goes xs (sends (signalOf x) g)
 
-  abbrev pub raises : Bit → Going S → Going S
-  raises x g = sends (ask 1) (waits (x .settle) (sends (level (high (x .bit))) (waits (x .before) g)))
+  abbrev pub raises : List Still → Going S → Going S
+  raises xs g = sends (ask 1) (goes xs g)
 
-  abbrev pub lowers : List ℕ → Going S → Going S
-  lowers ws g = sends (ask 0) (waits ws g)
+  abbrev pub lowers : List Still → Going S → Going S
+  lowers xs g = sends (ask 0) (goes xs g)
 
   abbrev pub sendsAll : List Bit → Going S → Going S
   sendsAll [] g = g
-  sendsAll (x ∷ xs) g = sendsAll xs (lowers (x .up) (raises x g))
+  sendsAll (x ∷ xs) g = sendsAll xs (lowers (x .up) (raises (x .low) g))
 
   abbrev pub putsUp : Gap → Going S → Going S
-  putsUp x g = waits (x .early) (sends (ask 1) (waits (x .before) g))
+  putsUp x g = goes (x .early) (raises (x .low) g)
 
   abbrev pub fetches : List Gap → Going S → Going S
   fetches [] g = g
@@ -98,4 +105,4 @@ module _ {S : Type 0} (C : Cable S) where
       else exchanged (sends (ask 0) g) none
 
   abbrev pub exchanges : Sending → S → Exchanged S
-  exchanges w s = goesOn w (raises (w .first) (going s []))
+  exchanges w s = goesOn w (raises (w .first .low) (going s []))
