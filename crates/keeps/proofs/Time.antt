@@ -110,7 +110,7 @@ body-twice a b d =
     let head : d .timers .head .0 - a .0 - b .0 ≡ d .timers .head .0 - (a .0 + b .0) = omega arith in
     rw (motor-twice (d .motor) (d .timers .busy) a b, busy, head)
 
-latch-later : (us : Micros) (value : ℕ) (d : Body) → passBody us (latchOf value d) ≡ latchOf value (passBody us d)
+pub latch-later : (us : Micros) (value : ℕ) (d : Body) → passBody us (latchOf value d) ≡ latchOf value (passBody us d)
 unfolding passBody latchOf
 latch-later us value d = refl
 
@@ -180,7 +180,7 @@ motor-zero : (motor : ℕ) (busy : Micros) (r : Bool) → ltb 0 (busy .0) ≡ r 
 motor-zero motor busy true r = motor-waits motor busy noTime (ltb-true 0 (busy .0) r)
 motor-zero motor busy false r = motor-rests motor busy noTime (omega (arith, ltb-false 0 (busy .0) r))
 
-body-zero : (d : Body) → passBody noTime d ≡ d
+pub body-zero : (d : Body) → passBody noTime d ≡ d
 unfolding passBody
 body-zero d = rw (motor-zero (d .motor) (d .timers .busy) _ refl, sub-zero (d .timers .busy .0), sub-zero (d .timers .head .0))
 

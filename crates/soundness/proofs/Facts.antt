@@ -31,7 +31,7 @@ use Rattle.record.specs.Record.{slotB, slotPack, slotState, lookOf}
 use Rattle.kinds.specs.Cell.{cellPlace}
 use Rattle.soundness.specs.Sound.{packTests, packB, placedOf, placesB, driveB, soundB}
 
-guarded : (a b : Bool) → (if not a then false else b) ≡ true → (a ≡ true) × (b ≡ true)
+pub guarded : (a b : Bool) → (if not a then false else b) ≡ true → (a ≡ true) × (b ≡ true)
 guarded true b h = (refl, h)
 guarded false b h = absurd (false≢true h)
 
@@ -121,7 +121,7 @@ placed-at (p ∷ packs) slot at len (suc i) h f =
     let s = placed-at packs (slot + 1) (placedOf p slot at .end) len i (g .1) f in
     record { own = omega arith; valid = s .valid; within = s .within }
 
-blank-drive : (l : Lines) (s : State) → driveB l noPack s ≡ true
+pub blank-drive : (l : Lines) (s : State) → driveB l noPack s ≡ true
 unfolding driveB
 blank-drive l s = refl
 
@@ -130,7 +130,7 @@ pub record Chosen (c : Chain) (d : Seen) : Type 0 where
   pub pack : InFile (c .lines .select) (c .length .0) (slotPack (c .packs) (c .lines .select))
   pub drive : Selected (d .profile) (c .lines) (d .state)
 
-slot-of : (k : ℕ) (packs : List Pack) → slotPack packs k .fitted ≡ 1 → slotB k ≡ true
+pub slot-of : (k : ℕ) (packs : List Pack) → slotPack packs k .fitted ≡ 1 → slotB k ≡ true
 unfolding slotPack
 slot-of k packs f = go (slotB k) refl f
   where
@@ -138,11 +138,11 @@ slot-of k packs f = go (slotB k) refl f
     go true e f′ = e
     go false e f′ = absurd (omega arith)
 
-pack-there : (k : ℕ) (packs : List Pack) → slotB k ≡ true → slotPack packs k ≡ getD packs (k - 1) noPack
+pub pack-there : (k : ℕ) (packs : List Pack) → slotB k ≡ true → slotPack packs k ≡ getD packs (k - 1) noPack
 unfolding slotPack
 pack-there k packs b = rw b
 
-state-there : (k : ℕ) (states : List State) → slotB k ≡ true → slotState states k ≡ getD states (k - 1) blankState
+pub state-there : (k : ℕ) (states : List State) → slotB k ≡ true → slotState states k ≡ getD states (k - 1) blankState
 unfolding slotState
 state-there k states b = rw b
 

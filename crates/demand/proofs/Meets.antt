@@ -1,0 +1,103 @@
+-- A drive meets edges and waits as the unit does that it is.
+use Prim.Native.Nat.{ℕ, _+_}
+use mathlib.Core.Path.{_≡_, refl, ap}
+use mathlib.Core.Bool.{Bool, true, false}
+use lib.Dec.{eqb}
+use Rattle.counts.specs.Choice.{if_then_else_}
+use Rattle.trailer.specs.declared.Profile.{Profile}
+use Rattle.handshake.specs.declared.Edge.{Edge}
+use Rattle.handshake.specs.declared.Edge.the-variants.{Keep, Drop, Carry}
+use Rattle.handshake.specs.Edges.{riseOf, fallOf, waitOf}
+use Rattle.pack.specs.declared.Pack.{Pack}
+use Rattle.drive.specs.declared.Body.{Body}
+use Rattle.drive.specs.declared.State.{State}
+use Rattle.drive.specs.State.{stateOf}
+use Rattle.drive.specs.Status.{calmB}
+use Rattle.drive.specs.Time as time
+use Rattle.word.specs.declared.Told.{Told}
+use Rattle.word.specs.declared.Told.the-variants.{Nothing, Word}
+use Rattle.word.specs.Rules.{carryOf}
+use Rattle.unit.specs.declared.Lines.{Lines}
+use Rattle.unit.specs.Request as unit
+use Rattle.event.specs.Answer.{numberOf}
+use Rattle.chain.specs.Decision.{outcomeAnswer}
+use Rattle.chain.specs.Apply.{passSlot}
+use Rattle.keeps.proofs.Time.{pass-pass}
+use Rattle.exchange.specs.Unit.{Met, Wired, afterWord, met, held, risen, fallen, passed}
+use Rattle.demand.specs.Drive.{toldOf, drive}
+use Rattle.demand.proofs.DriveLaws.{carry-answer}
+
+-- the unit's state as the drive's
+abbrev pub stood : Met Body → State
+stood m = stateOf (m .body) (m .transfer)
+
+after-told : (t : Told) → unit.afterWord t ≡ afterWord (toldOf t)
+after-told Nothing = refl
+after-told (Word r) = refl
+
+module _ (p : Profile) (b : Body) where
+  met-state : (e : Edge) → unit.metOf p b e .state ≡ stood (met (drive p) b e)
+  met-state (Keep t) = refl
+  met-state Drop = refl
+  met-state (Carry n) = ap (stateOf (carryOf p b n .body)) (after-told (carryOf p b n .told))
+
+  met-answer : (e : Edge) → numberOf (outcomeAnswer (unit.metOf p b e .outcome)) ≡ met (drive p) b e .answer
+  met-answer (Keep t) = refl
+  met-answer Drop = refl
+  met-answer (Carry n) = carry-answer p b n
+
+  held-state : (e : Edge) → time.heldOf b e .state ≡ stood (held (drive p) b e)
+  held-state (Keep t) = refl
+  held-state Drop = refl
+  held-state (Carry n) = refl
+
+  held-answer : (e : Edge) → numberOf (outcomeAnswer (time.heldOf b e .outcome)) ≡ held (drive p) b e .answer
+  held-answer (Keep t) = refl
+  held-answer Drop = refl
+  held-answer (Carry n) = refl
+
+module _ (p : Profile) (u : Wired Body) where
+  abbrev state : State
+  state = stateOf (u .body) (u .transfer)
+
+  module _ (l : Lines) (off : unit.gatedB l ≡ false) (same : l .command ≡ u .command) where
+    pub rise-state : unit.requestRises p l state .state ≡ stood (risen (drive p) u)
+    unfolding unit.requestRises
+    rise-state = rw (off, same) (met-state p (u .body) (riseOf false (calmB (u .body)) (u .command) (u .transfer)))
+
+    pub rise-answer : numberOf (outcomeAnswer (unit.requestRises p l state .outcome)) ≡ risen (drive p) u .answer
+    unfolding unit.requestRises
+    rise-answer = rw (off, same) (met-answer p (u .body) (riseOf false (calmB (u .body)) (u .command) (u .transfer)))
+
+  pub fall-state : unit.requestFalls p state .state ≡ stood (fallen (drive p) u)
+  unfolding unit.requestFalls
+  fall-state = met-state p (u .body) (fallOf (u .transfer))
+
+  pub fall-answer : numberOf (outcomeAnswer (unit.requestFalls p state .outcome)) ≡ fallen (drive p) u .answer
+  unfolding unit.requestFalls
+  fall-answer = met-answer p (u .body) (fallOf (u .transfer))
+
+  module _ (us : ℕ) where
+    abbrev wait : Edge
+    wait = waitOf (record { 0 = us }) (u .transfer)
+
+    pub pass-state : time.passOf (record { 0 = us }) state .state ≡ stood (passed (drive p) us u)
+    unfolding time.passOf
+    pass-state = held-state p (time.passBody (record { 0 = us }) (u .body)) wait
+
+    pub pass-answer : numberOf (outcomeAnswer (time.passOf (record { 0 = us }) state .outcome)) ≡ passed (drive p) us u .answer
+    unfolding time.passOf
+    pass-answer = held-answer p (time.passBody (record { 0 = us }) (u .body)) wait
+
+-- time in two parts on a slot, fitted or not
+slot-twice : (s t : ℕ) (d : State) (fitted : Bool)
+    → (if fitted then time.passOf (record { 0 = t }) (if fitted then time.passOf (record { 0 = s }) d .state else d) .state
+    else (if fitted then time.passOf (record { 0 = s }) d .state else d))
+    ≡ (if fitted then time.passOf (record { 0 = s + t }) d .state else d)
+slot-twice s t d true = pass-pass (record { 0 = s }) (record { 0 = t }) d
+slot-twice s t d false = refl
+
+pub slot-pass-pass : (s t : ℕ) (p : Pack) (d : State)
+    → passSlot (record { 0 = t }) p (passSlot (record { 0 = s }) p d) ≡ passSlot (record { 0 = s + t }) p d
+unfolding passSlot
+slot-pass-pass s t p d = slot-twice s t d (eqb (p .fitted) 1)

@@ -1,0 +1,77 @@
+-- The plain word rules on a drive that neither reads nor writes and has no transfer open, and when such a drive stays as it is.
+use Prim.Native.Nat.{ℕ, _+_, _-_, _≤_}
+use native.Mathlib.Omega.{arith}
+use mathlib.Core.Path.{_≡_, refl, sym, _∙_}
+use mathlib.Core.Bool.{Bool, true, false}
+use mathlib.Core.List.{List, [], _∷_}
+use lib.Dec.{eqb}
+use borrow.Author.Tests.{eqb-true, eqb-false}
+use Rattle.trailer.specs.declared.Profile.{Profile}
+use Rattle.handshake.specs.Transfer.{noTransfer}
+use Rattle.handshake.specs.Edges.{waitOf}
+use Rattle.drive.specs.declared.Body.{Body}
+use Rattle.drive.specs.declared.State.{State}
+use Rattle.drive.specs.State.{stateOf}
+use Rattle.drive.specs.Faults.{latchBit}
+use Rattle.drive.specs.Status.{calmB, completeB}
+use Rattle.drive.specs.Time.{passBody, passOf}
+use Rattle.drive.proofs.Facts.{limits}
+use Rattle.unit.specs.declared.Lines.{Lines}
+use Rattle.unit.proofs.Facts.{Selected, writes, reads}
+use Rattle.word.specs.declared.Told.the-variants.{Nothing}
+use Rattle.word.specs.Rules.{answered, carryOf, plainOf}
+use Rattle.keeps.proofs.Time.{calm-stays, body-twice}
+use Rattle.exchange.specs.Host.{Bit}
+use Rattle.exchange.specs.Waits.{timeOf, sentTime}
+
+module _ (p : Profile) (n : ℕ) (b : Body) (reading : b .reading ≡ 0) (writing : b .writing ≡ 0) where
+  pub plain-carries : calmB b ≡ true → plainOf p (stateOf b noTransfer) n ≡ answered (carryOf p b n .told) (stateOf (carryOf p b n .body) noTransfer)
+  unfolding plainOf completeB
+  plain-carries q = rw (reading, writing, q)
+
+  pub plain-refuses : calmB b ≡ false → plainOf p (stateOf b noTransfer) n ≡ answered Nothing (stateOf (latchBit 6 b) noTransfer)
+  unfolding plainOf completeB
+  plain-refuses q = rw (reading, writing, q)
+
+pub complete-calm : (b : Body) → completeB (stateOf b noTransfer) ≡ calmB b
+unfolding completeB
+complete-calm b = refl
+
+pub rest-pass : (us : ℕ) (b : Body) → passOf (record { 0 = us }) (stateOf b noTransfer) .state ≡ stateOf (passBody (record { 0 = us }) b) noTransfer
+unfolding passOf waitOf
+rest-pass us b = refl
+
+-- time neither begins nor ends reading or writing
+pub reading-kept : (us : ℕ) (b : Body) → b .reading ≡ 0 → passBody (record { 0 = us }) b .reading ≡ 0
+unfolding passBody
+reading-kept us b h = h
+
+pub writing-kept : (us : ℕ) (b : Body) → b .writing ≡ 0 → passBody (record { 0 = us }) b .writing ≡ 0
+unfolding passBody
+writing-kept us b h = h
+
+-- once calm, a drive stays as it is
+pub stays : (s t : ℕ) (b : Body) → s ≤ t → calmB (passBody (record { 0 = s }) b) ≡ true → passBody (record { 0 = t }) b ≡ passBody (record { 0 = s }) b
+stays s t b h q =
+    let whole : s + (t - s) ≡ t = omega arith in
+    (rw whole at (sym (body-twice (record { 0 = s }) (record { 0 = t - s }) b))) ∙ calm-stays (record { 0 = t - s }) (passBody (record { 0 = s }) b) q
+
+flag : (x : ℕ) (one : Bool) → eqb x 1 ≡ one → x ≤ 1 → (x ≡ 1 → ⊥) → x ≡ 0
+flag x true e l h = absurd (h (eqb-true x 1 e))
+flag x false e l h = let z = eqb-false x 1 e in omega arith
+
+-- with both gates off a sound drive neither reads nor writes
+module _ (p : Profile) (l : Lines) (s : State) (f : Selected p l s) where
+  pub no-reading : l .readgate ≡ 0 → s .body .reading ≡ 0
+  no-reading off =
+      flag (s .body .reading) (eqb (s .body .reading) 1) refl (limits p (s .body) (f .limits) .reading)
+      (λ one. omega (arith, off, reads p l s (f .reading) one .gate))
+
+  pub no-writing : l .writegate ≡ 0 → s .body .writing ≡ 0
+  no-writing off =
+      flag (s .body .writing) (eqb (s .body .writing) 1) refl (limits p (s .body) (f .limits) .writing)
+      (λ one. omega (arith, off, writes p l s (f .writing) one .gate))
+
+pub low-first : (x : Bit) (xs : List Bit) → timeOf (x .low) ≤ sentTime x xs
+low-first x [] = omega arith
+low-first x (y ∷ ys) = omega arith

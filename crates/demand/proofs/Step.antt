@@ -1,0 +1,116 @@
+-- The same through the board's one function, so long as every number is one that an event can have.
+use Prim.Native.Nat.{ℕ, _≤_}
+use native.Mathlib.Omega.{arith}
+use mathlib.Core.Path.{_≡_, refl, sym, ap, _∙_}
+use mathlib.Core.Bool.{Bool, true, false}
+use mathlib.Core.List.{List, [], _∷_}
+use lib.ListN.{length, length-set}
+use borrow.Author.Tests.{le-leb, eq-eqb}
+use Rattle.handshake.specs.Transfer.{patience}
+use Rattle.event.specs.declared.Decoded.{Decoded}
+use Rattle.event.specs.declared.Decoded.the-variants.{Is}
+use Rattle.event.specs.Decode.{ranged, lineOf, rowOf, decodeOf}
+use Rattle.event.specs.Answer.{numberOf}
+use Rattle.chain.specs.declared.Deed.{Deed}
+use Rattle.chain.specs.declared.Deed.the-variants.{Say, Read, Write}
+use Rattle.chain.specs.Deeds.{fileAfter}
+use Rattle.chain.specs.Apply.{applied}
+use Rattle.chain.specs.Sound.{soundB}
+use Rattle.board.specs.declared.Stepped.{Stepped}
+use Rattle.board.specs.Step.{performed, goOf, goFile, decodedOf, decodedFile, stepOf, stepFile}
+use Rattle.laws.proofs.Kept.{sound-kept}
+use Rattle.exchange.specs.Host.{Signal, level, ask, micros, Still, waits, sets, Bit, Gap, Sending, high, exchanges}
+use Rattle.exchange.specs.Waits.{timeOf, BitsFit, GapsFit, InTime, Each, EachOfBits, EachOfGaps, EachWait}
+use Rattle.exchange.proofs.Like.{Alike, exchanges-like}
+use Rattle.demand.specs.Decided.{Lent, eventOf, decisionOf, decided}
+use Rattle.demand.specs.AtOnce.{Resting, atOnce}
+use Rattle.demand.specs.Stepped.{kindOf, operandOf, InRange, steppedBy, stepped}
+use Rattle.demand.proofs.Demand.{demand-3}
+
+decodes : (e : Signal) → InRange e → decodeOf (kindOf e) (operandOf e) 0 ≡ Is (eventOf e)
+unfolding decodeOf rowOf ranged lineOf
+decodes (level v) h = rw (le-leb v 1 h)
+decodes (ask v) h = rw (le-leb v 1 h)
+decodes (micros us) h = rw (le-leb us 65535 h)
+
+-- a deed leaves the file as long as it was
+as-long : (x : Deed) (file : List ℕ) → length (fileAfter x file) ≡ length file
+as-long (Say a) file = refl
+as-long (Read i) file = refl
+as-long (Write i byte) file = length-set file i byte
+
+-- on a sound chain with its own file a step is the decision carried out
+module _ (e : Signal) (d : Lent) (f : InRange e) (s : soundB (d .chain) ≡ true) (l : length (d .file) ≡ d .chain .length .0) where
+  goes : goOf (eventOf e) (d .chain) (d .file) ≡ performed (d .chain) (d .file) (decisionOf e d)
+  unfolding goOf
+  goes = rw (s, eq-eqb (length (d .file)) (d .chain .length .0) l)
+
+  leaves : goFile (eventOf e) (d .chain) (d .file) ≡ fileAfter (decisionOf e d .deed) (d .file)
+  unfolding goFile
+  leaves = rw (s, eq-eqb (length (d .file)) (d .chain .length .0) l)
+
+  step-is : steppedBy e d ≡ performed (d .chain) (d .file) (decisionOf e d)
+  unfolding stepOf
+  step-is = ap (λ (x : Decoded). decodedOf x (d .chain) (d .file)) (decodes e f) ∙ goes
+
+  file-is : stepFile (kindOf e) (operandOf e) 0 (d .chain) (d .file) ≡ fileAfter (decisionOf e d .deed) (d .file)
+  unfolding stepFile
+  file-is = ap (λ (x : Decoded). decodedFile x (d .chain) (d .file)) (decodes e f) ∙ leaves
+
+  after-is : decided .after e d ≡ stepped .after e d
+  after-is = λ i. record { chain = sym step-is i .chain; file = sym file-is i }
+
+  answer-is : decided .answer e d ≡ stepped .answer e d
+  answer-is = sym (ap (λ (r : Stepped). numberOf (r .answer)) step-is)
+
+  still-long : length (decided .after e d .file) ≡ decided .after e d .chain .length .0
+  unfolding applied
+  still-long = as-long (decisionOf e d .deed) (d .file) ∙ l
+
+abbrev Short : ℕ → Type 0
+Short us = us ≤ 65_535
+
+short : (xs : List Still) → timeOf xs ≤ patience → Each Short xs
+short [] h = tt
+short (waits us ∷ xs) h = (omega arith, short xs (omega arith))
+short (sets x ∷ xs) h = short xs h
+
+short-bits : (xs : List Bit) → BitsFit xs → EachOfBits Short xs
+short-bits [] f = tt
+short-bits (x ∷ xs) f = (short (x .low) (f .0), short (x .up) (f .1), short-bits xs (f .2))
+
+short-gaps : (gs : List Gap) → GapsFit gs → EachOfGaps Short gs
+short-gaps [] f = tt
+short-gaps (g ∷ gs) f =
+    let up = f .1 in
+    (short (g .low) (f .0), short (g .early) (omega arith), short (g .late) (omega arith), short-gaps gs (f .2))
+
+one-bit : (x : Bool) → high x ≤ 1
+one-bit true = omega arith
+one-bit false = omega arith
+
+abbrev Same : Lent → Lent → Type 0
+Same s t = (s ≡ t) × (soundB (s .chain) ≡ true) × (length (s .file) ≡ s .chain .length .0)
+
+still-sound : (e : Signal) (s : Lent) → InRange e → soundB (s .chain) ≡ true → length (s .file) ≡ s .chain .length .0 → soundB (decided .after e s .chain) ≡ true
+still-sound e s f h l = ap (λ (x : Lent). soundB (x .chain)) (after-is e s f h l) ∙ sound-kept (s .chain) h (kindOf e) (operandOf e) 0 (s .file)
+
+alike : Alike decided stepped Same InRange
+alike = record {
+  levels = one-bit;
+  edges = one-bit;
+  after = λ e s t f l. (after-is e s f (l .1) (l .2) ∙ ap (stepped .after e) (l .0), still-sound e s f (l .1) (l .2), still-long e s f (l .1) (l .2));
+  answer = λ e s t f l. answer-is e s f (l .1) (l .2) ∙ ap (stepped .answer e) (l .0);
+  acknowledged = λ s t l. ap (stepped .acknowledged) (l .0);
+  responds = λ s t l. ap (stepped .responds) (l .0);
+  status = λ s t l. ap (stepped .status) (l .0);
+}
+
+-- demand 3 by `board::step`; each wait in front of the first rise is one that an event can have
+pub step-demand-3 : (w : Sending) (d : Lent) → InTime w → Each (λ us. us ≤ 65_535) (w .first .low)
+    → Resting (d .chain) → length (d .file) ≡ d .chain .length .0 → exchanges stepped w d ≡ atOnce w d
+step-demand-3 w d fit low r l =
+    let each : EachWait Short w = ((low, short (w .first .up) (fit .first), short-bits (w .more) (fit .bits)), short-gaps (w .gaps) (fit .gaps)) in
+    let e = exchanges-like decided stepped Same InRange alike w d d each (refl, r .sound, l) in
+    (λ i. record { now = sym (e .now .0) i; answers = sym (e .answers) i; response = sym (e .response) i })
+    ∙ demand-3 w d fit r

@@ -1,0 +1,108 @@
+-- The other side: the waits pass on every drive, and the plain word rules take the whole word at once.
+use Prim.Native.Nat.{ℕ, _+_}
+use mathlib.Core.Path.{_≡_}
+use mathlib.Core.Bool.{true, false}
+use mathlib.Core.List.{List, [], _∷_}
+use mathlib.Core.Option.{none, some}
+use lib.ListN.{length}
+use Rattle.counts.specs.Choice.{if_then_else_}
+use Rattle.handshake.specs.Transfer.{wordBits, openB}
+use Rattle.drive.specs.Status.{completeB}
+use Rattle.word.specs.declared.Told.{Told}
+use Rattle.word.specs.declared.Told.the-variants.{Nothing, Word}
+use Rattle.word.specs.declared.Answered.{Answered}
+use Rattle.word.specs.Rules.{carryOf, plainOf}
+use Rattle.event.specs.declared.Event.the-variants.{Pass}
+use Rattle.event.specs.Answer.{numberOf}
+use Rattle.chain.specs.declared.Chain.{Chain}
+use Rattle.chain.specs.Record.{lookOf}
+use Rattle.chain.specs.Decision.{outcomeAnswer}
+use Rattle.chain.specs.Signals.{with-command}
+use Rattle.chain.specs.Decide.{decideOf}
+use Rattle.chain.specs.Apply.{putOf, applied}
+use Rattle.chain.specs.Sound.{soundB}
+use Rattle.exchange.specs.Host.{Sending, Exchanged}
+use Rattle.exchange.specs.Waits.{levelOf, sentLevel, fetchLevel, wordOf, bitsOf, timeOf, sentTime, fetchTime, sentCount, fetchCount}
+use Rattle.exchange.specs.AtOnce.{zeros}
+use Rattle.demand.specs.Decided.{Lent, driveOf}
+
+-- "any sound chain with a fitted drive selected, both gates off, request low, no transfer open in it"
+pub record Resting (c : Chain) : Type 0 where
+  pub sound : soundB c ≡ true
+  pub selected : lookOf c .on ≡ true
+  pub writegate : c .lines .writegate ≡ 0
+  pub readgate : c .lines .readgate ≡ 0
+  pub request : c .lines .request ≡ 0
+  pub closed : openB (driveOf c .transfer) ≡ false
+
+-- "microseconds pass", as many as the waits are together
+abbrev pub passed : ℕ → Chain → Chain
+passed us c = applied c (decideOf c (Pass (record { 0 = us })))
+
+-- "given a drive and a word with its parity bit at once"
+abbrev pub plain : ℕ → Chain → Answered
+plain n c = plainOf (lookOf c .profile) (driveOf c) n
+
+-- the selected drive as the plain word rules leave it, and the command data level; nothing else of the record
+abbrev pub given : ℕ → ℕ → Chain → Chain
+given n level c = record {
+  packs = c .packs;
+  states = putOf (c .states) (c .lines .select) (plain n c .state);
+  lines = with-command level (c .lines);
+  length = c .length;
+}
+
+-- the 17th fall's answer: "a fault rule applied", or taken
+abbrev pub fallAnswer : ℕ → Chain → ℕ
+fallAnswer n c = numberOf (outcomeAnswer (carryOf (lookOf c .profile) (driveOf c .body) n .outcome))
+
+module _ (w : Sending) (d : Lent) where
+  -- the data level before
+  abbrev pub level : ℕ
+  level = d .chain .lines .command
+
+  -- the word sent
+  abbrev pub word : ℕ
+  word = wordOf level w
+
+  -- the chain at the first rise
+  abbrev pub risen : Chain
+  risen = passed (timeOf (w .first .low)) (d .chain)
+
+  -- and when the word has been sent, its response fetched
+  abbrev pub sent : Chain
+  sent = passed (sentTime (w .first) (w .more)) (d .chain)
+
+  abbrev pub fetched : Chain
+  fetched = passed (sentTime (w .first) (w .more) + fetchTime (w .gaps)) (d .chain)
+
+  abbrev pub lastLevel : ℕ
+  lastLevel = sentLevel level (w .first ∷ w .more)
+
+  -- 0 at every event but perhaps the 17th fall
+  abbrev pub answers : List ℕ
+  answers = fallAnswer word risen ∷ zeros (sentCount (w .first) (w .more)) []
+
+  -- not complete at the first rise: bit 6, answered 5; request falls at once, and no later wait counts
+  abbrev pub refused : Exchanged Lent
+  refused = record {
+    now = record { chain = given word (levelOf level (w .first .low)) risen; file = d .file };
+    answers = 0 ∷ 5 ∷ zeros (length (w .first .low)) [];
+    response = none;
+  }
+
+  -- carried out, with no response or with one: seventeen bits, parity last
+  abbrev pub carried : Told → Exchanged Lent
+  carried Nothing = record {
+    now = record { chain = given word lastLevel sent; file = d .file };
+    answers = answers;
+    response = none;
+  }
+  carried (Word r) = record {
+    now = record { chain = given word (fetchLevel lastLevel (w .gaps)) fetched; file = d .file };
+    answers = zeros (fetchCount (w .gaps)) answers;
+    response = some (bitsOf wordBits r);
+  }
+
+  abbrev pub atOnce : Exchanged Lent
+  atOnce = if completeB (driveOf risen) then carried (plain word risen .told) else refused

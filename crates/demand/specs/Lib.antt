@@ -1,0 +1,4 @@
+pub mod Drive
+pub mod Decided
+pub mod AtOnce
+pub mod Stepped

@@ -1,0 +1,159 @@
+-- A sound chain, slot by slot: what each fitted drive is known to be, and that a chain of such drives is sound.
+use mathlib.Core.Path.{_≡_, refl, sym, ap, _∙_}
+use mathlib.Core.Bool.{Bool, true, false, not, false≢true}
+use mathlib.Core.List.{List, [], _∷_}
+use Prim.Native.Nat.{ℕ, zero, suc, _+_, _-_, _≤_, _<_}
+use native.Mathlib.Omega.{arith}
+use borrow.Author.Tests.{eqb-true, eq-eqb, le-ltb, le-leb, not-false}
+use lib.Dec.{eqb}
+use lib.ListN.{length, getD, set, length-set}
+use lib.Seq.{getD-set-same, getD-set-other}
+use Rattle.counts.specs.Choice.{if_then_else_}
+use Rattle.counts.specs.Slots.{mapWith, allWith}
+use Rattle.counts.proofs.Choice.{by-test}
+use Rattle.counts.proofs.Tests.{both, join, within-both}
+use Rattle.trailer.specs.Valid.{validB}
+use Rattle.trailer.proofs.Facts.{ranges}
+use Rattle.pack.specs.declared.Pack.{Pack}
+use Rattle.pack.specs.Packs.{noPack}
+use Rattle.drive.specs.declared.State.{State}
+use Rattle.drive.specs.State.{blankState}
+use Rattle.unit.specs.declared.Lines.{Lines}
+use Rattle.unit.specs.Sound as unit
+use Rattle.chain.specs.declared.Chain.{Chain}
+use Rattle.chain.specs.Record.{slotB, slotPack, slotState, fittedB}
+use Rattle.chain.specs.Apply.{putOf}
+use Rattle.chain.specs.Sound.{driveB, soundB}
+use Rattle.chain.proofs.Facts.{sound, all-at, InFile, placed-at, blank-drive, slot-of, pack-there, state-there}
+
+-- a state put into a slot, looked at from a slot
+module _ (states : List State) (slot : ℕ) (s : State) where
+  pub put-same : slotB slot ≡ true → slot - 1 < length states → slotState (putOf states slot s) slot ≡ s
+  unfolding putOf slotState
+  put-same b lt = rw b (getD-set-same states (slot - 1) s blankState lt)
+
+  pub put-other : (k : ℕ) → (k ≡ slot → ⊥) → slotState (putOf states slot s) k ≡ slotState states k
+  unfolding putOf slotState
+  put-other k ne = by (slotB k) (slotB slot) refl refl
+    where
+      by : (t u : Bool) → slotB k ≡ t → slotB slot ≡ u
+          → (if t then getD (if u then set states (slot - 1) s else states) (k - 1) blankState else blankState) ≡ (if t then getD states (k - 1) blankState else blankState)
+      by false u p q = refl
+      by true false p q = refl
+      by true true p q =
+          let a = within-both 1 7 k p in
+          let b = within-both 1 7 slot q in
+          getD-set-other states (slot - 1) (k - 1) s blankState (λ (e : k - 1 ≡ slot - 1). ne (omega arith))
+
+  pub put-long : length (putOf states slot s) ≡ length states
+  unfolding putOf
+  put-long = by (slotB slot)
+    where
+      by : (t : Bool) → length (if t then set states (slot - 1) s else states) ≡ length states
+      by true = length-set states (slot - 1) s
+      by false = refl
+
+-- each state changed beside its pack, looked at from a slot
+module _ {A B : Type 0} (g : A → B → B) where
+  pub map-long : (xs : List A) (ys : List B) → length (mapWith g xs ys) ≡ length ys
+  map-long [] ys = refl
+  map-long (x ∷ xs) [] = refl
+  map-long (x ∷ xs) (y ∷ ys) = ap suc (map-long xs ys)
+
+  map-at : (xs : List A) (ys : List B) (i : ℕ) (u : A) (v : B) → i < length xs → i < length ys
+      → getD (mapWith g xs ys) i v ≡ g (getD xs i u) (getD ys i v)
+  map-at [] ys i u v m n = absurd (omega arith)
+  map-at (x ∷ xs) [] i u v m n = absurd (omega arith)
+  map-at (x ∷ xs) (y ∷ ys) zero u v m n = refl
+  map-at (x ∷ xs) (y ∷ ys) (suc i) u v m n = map-at xs ys i u v (omega arith) (omega arith)
+
+-- no pack stands past the end of the packs
+there : (packs : List Pack) (i : ℕ) → getD packs i noPack .fitted ≡ 1 → i < length packs
+there [] i f = absurd (omega arith)
+there (p ∷ packs) zero f = omega arith
+there (p ∷ packs) (suc i) f = omega (arith, there packs i f)
+
+-- the second list is no shorter
+no-shorter : {A B : Type 0} (p : A → B → Bool) (xs : List A) (ys : List B) → allWith p xs ys ≡ true → length xs ≤ length ys
+no-shorter p [] ys h = omega arith
+no-shorter p (x ∷ xs) [] h = absurd (false≢true h)
+no-shorter p (x ∷ xs) (y ∷ ys) h = omega (arith, no-shorter p xs ys (both (p x y) (allWith p xs ys) h .1))
+
+-- what holds at each place holds of all
+all-from : {A B : Type 0} (p : A → B → Bool) (z : A) (v : B) (xs : List A) (ys : List B) → length xs ≤ length ys
+    → ((i : ℕ) → p (getD xs i z) (getD ys i v) ≡ true) → allWith p xs ys ≡ true
+all-from p z v [] ys n h = refl
+all-from p z v (x ∷ xs) [] n h = absurd (omega arith)
+all-from p z v (x ∷ xs) (y ∷ ys) n h = join (p x y) (allWith p xs ys) (h zero) (all-from p z v xs ys (omega arith) (λ i. h (suc i)))
+
+module _ (c : Chain) (h : soundB c ≡ true) where
+  pub enough : length (c .packs) ≤ length (c .states)
+  enough = no-shorter (driveB (c .lines)) (c .packs) (c .states) (sound c h .drives)
+
+  -- a fitted slot
+  module _ (k : ℕ) (f : fittedB (slotPack (c .packs) k) ≡ true) where
+    abbrev p : Pack
+    p = slotPack (c .packs) k
+
+    is-slot : slotB k ≡ true
+    is-slot = slot-of k (c .packs) (eqb-true _ _ f)
+
+    listed : getD (c .packs) (k - 1) noPack .fitted ≡ 1
+    listed = rw (← pack-there k (c .packs) is-slot) (eqb-true _ _ f)
+
+    in-file : InFile k (c .length .0) p
+    in-file =
+        let w = within-both 1 7 k is-slot in
+        let q = placed-at (c .packs) 1 0 (c .length .0) (k - 1) (sound c h .places) listed in
+        let i : InFile k (c .length .0) (getD (c .packs) (k - 1) noPack) = record { own = omega arith; valid = q .valid; within = q .within } in
+        rw (pack-there k (c .packs) is-slot) i
+
+    pub slot-valid : validB (p .profile) ≡ true
+    slot-valid = in-file .valid
+
+    pub slot-room : k - 1 < length (c .states)
+    slot-room = omega (arith, there (c .packs) (k - 1) listed, enough)
+
+    as-unit : (l : Lines) (s : State) → driveB l p s ≡ unit.soundB (p .profile) l (eqb (l .select) k) s
+    unfolding driveB
+    as-unit l s = rw (f, in-file .own)
+
+    -- the drive is sound, as a selected or an unselected one
+    pub slot-sound : unit.soundB (p .profile) (c .lines) (eqb (c .lines .select) k) (slotState (c .states) k) ≡ true
+    slot-sound =
+        let d = all-at (driveB (c .lines)) noPack blankState (blank-drive (c .lines)) (c .packs) (c .states) (k - 1) (sound c h .drives) in
+        sym (as-unit (c .lines) (slotState (c .states) k)) ∙ rw (pack-there k (c .packs) is-slot, state-there k (c .states) is-slot) d
+
+    pub slot-mapped : (g : Pack → State → State) → slotState (mapWith g (c .packs) (c .states)) k ≡ g p (slotState (c .states) k)
+    slot-mapped g =
+        state-there k (mapWith g (c .packs) (c .states)) is-slot
+        ∙ rw (pack-there k (c .packs) is-slot, state-there k (c .states) is-slot)
+        (map-at g (c .packs) (c .states) (k - 1) noPack blankState (there (c .packs) (k - 1) listed) slot-room)
+
+  -- the same packs with other lines and states
+  module _ (m : Lines) (states : List State) where
+    abbrev Slots : Type 0
+    Slots = (k : ℕ) → fittedB (slotPack (c .packs) k) ≡ true → unit.soundB (slotPack (c .packs) k .profile) m (eqb (m .select) k) (slotState states k) ≡ true
+
+    at-place : Slots → (i : ℕ) → getD (c .packs) i noPack .fitted ≡ 1 → driveB m (getD (c .packs) i noPack) (getD states i blankState) ≡ true
+    at-place g i f =
+        let k = i + 1 in
+        let q = placed-at (c .packs) 1 0 (c .length .0) i (sound c h .places) f in
+        let r = ranges _ (q .valid) in
+        let b : slotB k ≡ true = join _ _ (le-leb 1 k (omega arith)) (le-leb k 7 (omega arith)) in
+        let back : k - 1 ≡ i = omega arith in
+        let ep : slotPack (c .packs) k ≡ getD (c .packs) i noPack = pack-there k (c .packs) b ∙ ap (λ (j : ℕ). getD (c .packs) j noPack) back in
+        let es : slotState states k ≡ getD states i blankState = state-there k states b ∙ ap (λ (j : ℕ). getD states j blankState) back in
+        let fk : fittedB (slotPack (c .packs) k) ≡ true = rw ep (eq-eqb _ _ f) in
+        rw (← ep, ← es) (as-unit k fk m (slotState states k) ∙ g k fk)
+
+    at-any : Slots → (i : ℕ) → driveB m (getD (c .packs) i noPack) (getD states i blankState) ≡ true
+    unfolding driveB
+    at-any g i = by-test (λ b. b ≡ true) (not (eqb (getD (c .packs) i noPack .fitted) 1)) true _ (λ n. refl)
+        (λ f. rw f at (at-place g i (eqb-true _ _ (not-false _ f))))
+
+    pub slots-sound : unit.linesB m ≡ true → length (c .packs) ≤ length states → Slots
+        → soundB (record { packs = c .packs; states = states; lines = m; length = c .length }) ≡ true
+    unfolding soundB
+    slots-sound l n g =
+        rw (l, le-ltb _ _ (sound c h .long), sound c h .places) (all-from (driveB m) noPack blankState (c .packs) states n (at-any g))

@@ -1,0 +1,4 @@
+pub mod Levels
+pub mod Column
+pub mod Applies
+pub mod Run

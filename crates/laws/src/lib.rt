@@ -1,0 +1,1 @@
+// The theorems on the chain, over the definitions that its functions are proved against.
