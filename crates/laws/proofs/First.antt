@@ -46,7 +46,7 @@ use Rattle.chain.proofs.Facts.{state-there}
 use Rattle.board.specs.declared.Stepped.{Stepped}
 use Rattle.board.specs.Step.{goOf, stepOf}
 use Rattle.laws.specs.Levels.{linesAfter, movesB}
-use Rattle.laws.specs.Applies.{ruleOf, ifAny, timeMeets, meets, faultB, inhibitedB, askedB, unselectedB, firstApplies}
+use Rattle.laws.specs.Applies.{ruleOf, ifAny, timeMeets, meets, faultB, inhibitedB, askedB, unselectedB, firstBy, firstApplies}
 use Rattle.laws.proofs.Walk.{lineB, Cases, walk, enteredOf}
 use Rattle.laws.proofs.Outcomes.{left-acts, pass-acts}
 use Rattle.laws.proofs.Drives.{slot-sound, is-slot, listed, slot-room, state-in, fitted-in}
@@ -57,10 +57,6 @@ never z = omega arith
 and-false : (a : Bool) → (a && false) ≡ false
 and-false true = refl
 and-false false = refl
-
--- the first of 5, 4, 3, 0, by what was met and whether no drive is selected
-abbrev firstBy : List Outcome → Bool → ℕ
-firstBy os t = if faultB os then 5 else if inhibitedB os then 4 else if t then 3 else 0
 
 one : (o : Outcome) → numberOf (outcomeAnswer o) ≡ firstBy (o ∷ []) false
 one Done = refl
