@@ -20,7 +20,7 @@ use Rattle.drive.specs.State.{starting, up, with-reading, with-writing, freshBo
 use Rattle.drive.specs.Faults.{latchBit, losePosition}
 use Rattle.drive.specs.Heads.{switchedOf}
 use Rattle.drive.specs.Time.{motorAfter, passBody}
-use Rattle.drive.specs.Limits.{armTests, motorB}
+use Rattle.drive.specs.Limits.{armTests, timerTests, motorB}
 use Rattle.acts.proofs.Limits.{Parts, latch-keeps}
 
 -- "2 latches bit 4, loses the position and ends reading"
@@ -65,7 +65,8 @@ module _ (p : Profile) (b : Body) (q : Parts p b) where
   unfolding switchedOf
   switched-limits v h most =
       let head = le-leb (h .0) 15 most in
-      let timers = join _ _ (both (leb (b .timers .busy .0) 30_000_000) (leb (b .timers .head .0) 60_000) (q .timers) .0) (le-leb (p .times .switch .0) 60_000 (ranges p v .switch)) in
+      let busy = each (timerTests (b .timers)) (q .timers) .0 in
+      let timers = join _ _ busy (le-leb (p .times .switch .0) 60_000 (ranges p v .switch)) in
       by-test (Parts p) (ltb 15 (p .times .switch .0)) _ _
       (λ e. search needs)
       (λ e. search needs)
@@ -77,12 +78,11 @@ module _ (p : Profile) (b : Body) (q : Parts p b) where
   pub pass-limits : (us : Micros) → Parts p (passBody us b)
   unfolding passBody motorAfter
   pass-limits us =
-      let t = both (leb (b .timers .busy .0) 30_000_000) (leb (b .timers .head .0) 60_000) (q .timers) in
+      let t = each (timerTests (b .timers)) (q .timers) in
       let busy = b .timers .busy .0 in
       let head = b .timers .head .0 in
-      let timers =
-      join _ _ (le-leb (busy - us .0) 30_000_000 (omega (arith, leb-true busy 30_000_000 (t .0))))
-      (le-leb (head - us .0) 60_000 (omega (arith, leb-true head 60_000 (t .1)))) in
+      let shorter = le-leb (busy - us .0) 30_000_000 (omega (arith, leb-true busy 30_000_000 (t .0))) in
+      let timers = join _ _ shorter (le-leb (head - us .0) 60_000 (omega (arith, leb-true head 60_000 (t .1 .0)))) in
       let motor = motor-passes (b .motor) busy (us .0) _ _ _ refl refl refl (q .motor) in
       search needs
 

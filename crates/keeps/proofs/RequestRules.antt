@@ -57,27 +57,28 @@ after-left (Word r) h =
     })
 
 module _ (p : Profile) (v : validB p ≡ true) (l : Lines) (s : State) where
-  -- "any open transfer dropped": a reading drive has none, and reads on
-  dropped-sound : soundB p l true s ≡ true → soundB p (with-request 1 l) true (droppedOf (s .body)) ≡ true
+  -- a reading drive has no transfer to drop, and reads on
+  reads-on : Reads p l s → Reads p (with-request 1 l) (droppedOf (s .body))
   unfolding usableB completeB latchOf
+  reads-on g =
+      let e = usable p s (g .usable) in
+      let calm = both (not (openB (s .transfer))) (calmB (s .body)) (e .complete) .1 in
+      let still = all (usableTests p (droppedOf (s .body))) (e .ready, (calm, (eq-eqb _ _ (e .known), (lt-ltb _ _ (e .present), tt)))) in
+      record { gate = g .gate; other = g .other; usable = still }
+
+  -- "bit 6, any open transfer dropped"
+  dropped-sound : soundB p l true s ≡ true → soundB p (with-request 1 l) true (droppedOf (s .body)) ≡ true
+  unfolding latchOf
   dropped-sound sound =
       let f = selected p l s sound in
       let m = with-request 1 l in
       let r = droppedOf (s .body) in
-      let reads : Reads p l s → Reads p m r = λ g.
-      let e = usable p s (g .usable) in
-      let calm = both (not (openB (s .transfer))) (calmB (s .body)) (e .complete) .1 in
-      record {
-        gate = g .gate;
-        other = g .other;
-        usable = all (usableTests p r) (e .ready, (calm, (eq-eqb _ _ (e .known), (lt-ltb _ _ (e .present), tt))));
-      } in
       from-selected p m r (record {
         limits = whole p _ (latch-limits p (s .body) (sound-parts p l true s sound) 6 (omega arith) refl);
         head = f .head;
         left = none-left 1 noTransfer refl;
         writing = not-writing p m r refl;
-        reading = still-reads p l s f m r refl reads;
+        reading = still-reads p l s f m r refl reads-on;
       })
 
   pub rises-keeps : linesB l ≡ true → l .request ≡ 0 → soundB p l true s ≡ true → soundB p (with-request 1 l) true (requestRises p l s .state) ≡ true

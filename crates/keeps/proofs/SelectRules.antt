@@ -16,7 +16,7 @@ use Rattle.drive.specs.declared.Body.{Body}
 use Rattle.drive.specs.declared.State.{State}
 use Rattle.drive.specs.declared.Ruled.{Ruled}
 use Rattle.drive.specs.State.{with-reading, stateOf}
-use Rattle.drive.specs.Faults.{latchOf, latchBit}
+use Rattle.drive.specs.Faults.{latchOf}
 use Rattle.drive.specs.Heads.{switchedOf, headChange, metOf, leftOf}
 use Rattle.drive.specs.Time.{droppedOf}
 use Rattle.acts.proofs.Limits.{Parts, whole}
@@ -30,18 +30,21 @@ use Rattle.keeps.proofs.Left.{none-left, left-none}
 use Rattle.keeps.proofs.Bodies.{reading-limits, latch-limits, switched-limits, switched-leaves}
 
 module _ (p : Profile) (v : validB p ≡ true) (l : Lines) (s : State) where
+  switched-sound : (m : Lines) (h : Head) (b : Body) → h .0 ≤ 15 → h .0 ≡ m .heads .0 → leftB (m .request) (s .transfer) ≡ true
+      → Parts p b → b .writing ≡ 0 → soundB p m true (stateOf (switchedOf p h b) (s .transfer)) ≡ true
+  switched-sound m h b most shown left q w =
+      let e = switched-leaves p h b in
+      neither p m (stateOf (switchedOf p h b) (s .transfer)) (switched-limits p b q v h most)
+      (ap (λ (x : Head). x .0) (e .head) ∙ shown) left (e .writing ∙ w) (e .reading)
+
   -- a head change, at whatever lines show that head
-  changed-sound : (m : Lines) (h : Head) → h .0 ≤ 15 → h .0 ≡ m .heads .0 → Parts p (s .body) → leftB (m .request) (s .transfer) ≡ true
+  changed-sound : (m : Lines) (h : Head) → h .0 ≤ 15 → h .0 ≡ m .heads .0 → leftB (m .request) (s .transfer) ≡ true → Parts p (s .body)
       → soundB p m true (headChange p h s .state) ≡ true
   unfolding headChange latchOf
-  changed-sound m h most shown q left =
-      let ends : (b : Body) → Parts p b → b .writing ≡ 0 → soundB p m true (stateOf (switchedOf p h b) (s .transfer)) ≡ true =
-      λ b r w.
-      let e = switched-leaves p h b in
-      neither p m (stateOf (switchedOf p h b) (s .transfer)) (switched-limits p b r v h most) (ap (λ (x : Head). x .0) (e .head) ∙ shown) left (e .writing ∙ w) (e .reading) in
+  changed-sound m h most shown left q =
       by-test (λ (r : Ruled). soundB p m true (r .state) ≡ true) (eqb (s .body .writing) 1) _ _
-      (λ on. ends (latchBit 6 (s .body)) (latch-limits p (s .body) q 6 (omega arith) refl) refl)
-      (λ off. ends (s .body) q (flag (s .body .writing) (leb-true _ _ (q .writing)) (eqb-false _ _ off)))
+      (λ on. switched-sound m h _ most shown left (latch-limits p (s .body) q 6 (omega arith) refl) refl)
+      (λ off. switched-sound m h (s .body) most shown left q (flag (s .body .writing) (leb-true _ _ (q .writing)) (eqb-false _ _ off)))
 
   pub heads-keeps : (h : Head) → h .0 ≤ 15 → soundB p l true s ≡ true → soundB p (with-heads h l) true (metOf p h s .state) ≡ true
   unfolding metOf writingB readingB
@@ -50,7 +53,7 @@ module _ (p : Profile) (v : validB p ≡ true) (l : Lines) (s : State) where
       let m = with-heads h l in
       by-test (λ (r : Ruled). soundB p m true (r .state) ≡ true) (eqb (s .body .head .0) (h .0)) _ _
       (λ same. from-selected p m s (record { limits = f .limits; head = eqb-true _ _ same; left = f .left; writing = f .writing; reading = f .reading }))
-      (λ other. changed-sound m h most refl (sound-parts p l true s sound) (f .left))
+      (λ other. changed-sound m h most refl (f .left) (sound-parts p l true s sound))
 
   pub entered-keeps : (x : ℕ) → linesB l ≡ true → soundB p l false s ≡ true → soundB p (with-select x l) true (metOf p (l .heads) s .state) ≡ true
   unfolding metOf
@@ -61,7 +64,7 @@ module _ (p : Profile) (v : validB p ≡ true) (l : Lines) (s : State) where
       let left = none-left (l .request) (s .transfer) (u .none) in
       by-test (λ (r : Ruled). soundB p m true (r .state) ≡ true) (eqb (s .body .head .0) (l .heads .0)) _ _
       (λ same. neither p m s q (eqb-true _ _ same) left (u .writing) (u .reading))
-      (λ other. changed-sound m (l .heads) (leb-true _ _ (each (lineTests l) k .1 .0)) refl q left)
+      (λ other. changed-sound m (l .heads) (leb-true _ _ (each (lineTests l) k .1 .0)) refl left q)
 
   pub left-keeps : soundB p l true s ≡ true → (m : Lines) → soundB p m false (leftOf s .state) ≡ true
   unfolding leftOf latchOf
