@@ -122,7 +122,7 @@ module _ (c : Chain) (file : List ℕ) (h : soundB c ≡ true) (n : length file 
   cases : Cases c P
   unfolding applied changedOf passOf
   cases = record {
-    still = λ e on q. refl;
+    still = λ e b on m q. refl;
     level = λ v on. refl;
     alone = λ e a off q. (rw off, refl);
     met = λ e on m q. ruled e (ruleOf d l e .outcome) (ruleOf d l e .state) (rule-unlatched d l e) q;

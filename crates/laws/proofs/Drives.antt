@@ -95,10 +95,10 @@ module _ (c : Chain) (h : soundB c ≡ true) where
     abbrev p : Pack
     p = slotPack (c .packs) k
 
-    is-slot : slotB k ≡ true
+    pub is-slot : slotB k ≡ true
     is-slot = slot-of k (c .packs) (eqb-true _ _ f)
 
-    listed : getD (c .packs) (k - 1) noPack .fitted ≡ 1
+    pub listed : getD (c .packs) (k - 1) noPack .fitted ≡ 1
     listed = rw (← pack-there k (c .packs) is-slot) (eqb-true _ _ f)
 
     in-file : InFile k (c .length .0) p
@@ -130,6 +130,26 @@ module _ (c : Chain) (h : soundB c ≡ true) where
         ∙ rw (pack-there k (c .packs) is-slot, state-there k (c .states) is-slot)
         (map-at g (c .packs) (c .states) (k - 1) noPack blankState (there (c .packs) (k - 1) listed) slot-room)
 
+  -- a pack that is fitted stands in a slot
+  module _ (i : ℕ) (f : getD (c .packs) i noPack .fitted ≡ 1) where
+    slot-there : slotB (i + 1) ≡ true
+    slot-there =
+        let q = placed-at (c .packs) 1 0 (c .length .0) i (sound c h .places) f in
+        let r = ranges _ (q .valid) in
+        join _ _ (le-leb 1 (i + 1) (omega arith)) (le-leb (i + 1) 7 (omega arith))
+
+    back : i + 1 - 1 ≡ i
+    back = omega arith
+
+    pub pack-in : slotPack (c .packs) (i + 1) ≡ getD (c .packs) i noPack
+    pack-in = pack-there (i + 1) (c .packs) slot-there ∙ ap (λ (j : ℕ). getD (c .packs) j noPack) back
+
+    pub state-in : (states : List State) → slotState states (i + 1) ≡ getD states i blankState
+    state-in states = state-there (i + 1) states slot-there ∙ ap (λ (j : ℕ). getD states j blankState) back
+
+    pub fitted-in : fittedB (slotPack (c .packs) (i + 1)) ≡ true
+    fitted-in = rw pack-in (eq-eqb _ _ f)
+
   -- the same packs with other lines and states
   module _ (m : Lines) (states : List State) where
     abbrev Slots : Type 0
@@ -137,15 +157,7 @@ module _ (c : Chain) (h : soundB c ≡ true) where
 
     at-place : Slots → (i : ℕ) → getD (c .packs) i noPack .fitted ≡ 1 → driveB m (getD (c .packs) i noPack) (getD states i blankState) ≡ true
     at-place g i f =
-        let k = i + 1 in
-        let q = placed-at (c .packs) 1 0 (c .length .0) i (sound c h .places) f in
-        let r = ranges _ (q .valid) in
-        let b : slotB k ≡ true = join _ _ (le-leb 1 k (omega arith)) (le-leb k 7 (omega arith)) in
-        let back : k - 1 ≡ i = omega arith in
-        let ep : slotPack (c .packs) k ≡ getD (c .packs) i noPack = pack-there k (c .packs) b ∙ ap (λ (j : ℕ). getD (c .packs) j noPack) back in
-        let es : slotState states k ≡ getD states i blankState = state-there k states b ∙ ap (λ (j : ℕ). getD states j blankState) back in
-        let fk : fittedB (slotPack (c .packs) k) ≡ true = rw ep (eq-eqb _ _ f) in
-        rw (← ep, ← es) (as-unit k fk m (slotState states k) ∙ g k fk)
+        rw (← pack-in i f, ← state-in i f states) (as-unit (i + 1) (fitted-in i f) m (slotState states (i + 1)) ∙ g (i + 1) (fitted-in i f))
 
     at-any : Slots → (i : ℕ) → driveB m (getD (c .packs) i noPack) (getD states i blankState) ≡ true
     unfolding driveB

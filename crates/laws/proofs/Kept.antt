@@ -229,7 +229,7 @@ module _ (c : Chain) (h : soundB c ≡ true) where
   cases : Cases c P
   unfolding applied changedOf passOf lookOf
   cases = record {
-    still = λ e y q r. h;
+    still = λ e b y m q r. h;
     level = λ a y r. data-kept a r;
     alone = λ e asked n a r. unselected e r n a;
     met = λ e y m q r. met-kept e r y m q;

@@ -6,3 +6,4 @@ pub mod Drives
 pub mod Ranges
 pub mod Kept
 pub mod Run
+pub mod First

@@ -29,6 +29,18 @@ use Rattle.chain.specs.Decide.{passOf, cellPlace, touching, cellOf, fixedChange
 use Rattle.laws.specs.Levels.{linesAfter, movesB}
 use Rattle.laws.specs.Applies.{ruleOf, askedB}
 
+-- kinds 0 to 5
+abbrev pub lineB : Event → Bool
+lineB (Select slot) = true
+lineB (Heads h) = true
+lineB (WriteGate level) = true
+lineB (ReadGate level) = true
+lineB (Data level) = true
+lineB (Request level) = true
+lineB (Pass us) = false
+lineB (Cell position byte) = false
+lineB (Condition slot which) = false
+
 -- the drive of a slot, entered with the head lines
 abbrev pub enteredOf : Chain → ℕ → Ruled
 enteredOf c slot = metOf (slotPack (c .packs) slot .profile) (c .lines .heads) (slotState (c .states) slot)
@@ -42,7 +54,7 @@ module _ (c : Chain) (P : Event → Decision → Type 0) where
 
   pub record Cases : Type 0 where
     -- a line set to the level it has, and the data line: nothing is met
-    pub still : (e : Event) → d .on ≡ true → linesAfter e l ≡ l → P e (sayOf l Taken)
+    pub still : (e : Event) → lineB e ≡ true → d .on ≡ true → movesB e l ≡ false → linesAfter e l ≡ l → P e (sayOf l Taken)
     pub level : (v : ℕ) → d .on ≡ true → P (Data v) (sayOf (with-command v l) Taken)
     -- no fitted drive, before or after
     pub alone : (e : Event) → askedB e ≡ true → d .on ≡ false → fittedB (slotPack (c .packs) (linesAfter e l .select)) ≡ false
@@ -82,10 +94,10 @@ module _ (c : Chain) (P : Event → Decision → Type 0) where
     after-on e q h = rw q h
 
     -- the line has that level
-    same : (e : Event) → askedB e ≡ true → linesAfter e l ≡ l → P e (heardOf l (d .on))
+    same : (e : Event) → lineB e ≡ true → askedB e ≡ true → movesB e l ≡ false → linesAfter e l ≡ l → P e (heardOf l (d .on))
     unfolding heardOf
-    same e a q =
-        by-test (P e) (d .on) _ _ (λ on. k .still e on q)
+    same e b a m q =
+        by-test (P e) (d .on) _ _ (λ on. k .still e b on m q)
         (λ off. rw q at (k .alone e a off (after-on e (ap (λ (m : Lines). m .select) q) off)))
 
     unheard : (e : Event) → askedB e ≡ true → d .on ≡ false → linesAfter e l .select ≡ l .select → P e (heardOf (linesAfter e l) false)
@@ -98,12 +110,12 @@ module _ (c : Chain) (P : Event → Decision → Type 0) where
     either e m false x y p = p
 
     -- kinds 2, 3 and 5
-    signal : (e : Event) (level : ℕ) (t : Bool) (x y : Ruled) → askedB e ≡ true → linesAfter e l .select ≡ l .select → movesB e l ≡ not t
+    signal : (e : Event) (level : ℕ) (t : Bool) (x y : Ruled) → lineB e ≡ true → askedB e ≡ true → linesAfter e l .select ≡ l .select → movesB e l ≡ not t
         → (t ≡ true → linesAfter e l ≡ l) → ruleOf d l e ≡ (if eqb level 1 then x else y)
         → P e (if t then heardOf l (d .on) else if not (d .on) then heardOf (linesAfter e l) false
         else if eqb level 1 then ruledOf (linesAfter e l) x else ruledOf (linesAfter e l) y)
-    signal e level t x y a q m h r =
-        by-test (P e) t _ _ (λ s. same e a (h s))
+    signal e level t x y b a q m h r =
+        by-test (P e) t _ _ (λ s. same e b a (rw (m, s)) (h s))
         (λ n. by-test (P e) (not (d .on)) _ _ (λ off. unheard e a (not-true _ off) q)
         (λ on. either e (linesAfter e l) (eqb level 1) x y (rw r at (k .met e (not-false _ on) (rw (m, n)) q))))
 
@@ -120,22 +132,22 @@ module _ (c : Chain) (P : Event → Decision → Type 0) where
     unfolding decideOf selectOf movedOf headsOf writeGateOf readGateOf requestOf cellOf conditionOf conditionAt heardOf
     walk (Select slot) =
         by-test (P (Select slot)) (eqb (l .select) slot) _ _
-        (λ s. same (Select slot) refl (ap (λ (x : ℕ). with-select x l) (sym (eqb-true (l .select) slot s))))
+        (λ s. same (Select slot) refl refl (rw s) (ap (λ (x : ℕ). with-select x l) (sym (eqb-true (l .select) slot s))))
         (λ n. moved slot (rw n))
     walk (Heads h) =
         by-test (P (Heads h)) (eqb (l .heads .0) (h .0)) _ _
-        (λ s. same (Heads h) refl (ap (λ (x : ℕ). with-heads (record { 0 = x }) l) (sym (eqb-true (l .heads .0) (h .0) s))))
+        (λ s. same (Heads h) refl refl (rw s) (ap (λ (x : ℕ). with-heads (record { 0 = x }) l) (sym (eqb-true (l .heads .0) (h .0) s))))
         (λ n. by-test (P (Heads h)) (not (d .on)) _ _ (λ off. unheard (Heads h) refl (not-true _ off) refl)
         (λ on. k .met (Heads h) (not-false _ on) (rw n) refl))
     walk (WriteGate v) =
-        signal (WriteGate v) v (eqb (l .writegate) v) _ _ refl refl refl
+        signal (WriteGate v) v (eqb (l .writegate) v) _ _ refl refl refl refl
         (λ s. ap (λ (x : ℕ). with-writegate x l) (sym (eqb-true (l .writegate) v s))) refl
     walk (ReadGate v) =
-        signal (ReadGate v) v (eqb (l .readgate) v) _ _ refl refl refl
+        signal (ReadGate v) v (eqb (l .readgate) v) _ _ refl refl refl refl
         (λ s. ap (λ (x : ℕ). with-readgate x l) (sym (eqb-true (l .readgate) v s))) refl
     walk (Data v) = by-test (P (Data v)) (d .on) _ _ (λ on. k .level v on) (λ off. unheard (Data v) refl off refl)
     walk (Request v) =
-        signal (Request v) v (eqb (l .request) v) _ _ refl refl refl
+        signal (Request v) v (eqb (l .request) v) _ _ refl refl refl refl
         (λ s. ap (λ (x : ℕ). with-request x l) (sym (eqb-true (l .request) v s))) refl
     walk (Pass us) = k .passes us
     walk (Cell position byte) =

@@ -97,9 +97,12 @@ abbrev pub unselectedB : Chain → Event → Bool
 unselectedB c e = askedB e && not (fittedB (slotPack (c .packs) (linesAfter e (c .lines) .select)))
 
 -- "Of the answers 5, 4, 3, 0 the first that applies is given"
-unfoldable pub firstApplies : Chain → Event → ℕ
-firstApplies c e =
-    if faultB (meets c e) then 5
-    else if inhibitedB (meets c e) then 4
-    else if unselectedB c e then 3
+abbrev pub firstBy : List Outcome → Bool → ℕ
+firstBy outcomes unselected =
+    if faultB outcomes then 5
+    else if inhibitedB outcomes then 4
+    else if unselected then 3
     else 0
+
+unfoldable pub firstApplies : Chain → Event → ℕ
+firstApplies c e = firstBy (meets c e) (unselectedB c e)
