@@ -16,16 +16,17 @@ use Rattle.drive.specs.State.{blankState, stateOf}
 use Rattle.unit.specs.declared.Lines.{Lines}
 use Rattle.unit.specs.Request.{gatedB}
 use Rattle.event.specs.Answer.{numberOf}
-use Rattle.chain.specs.declared.Chain.{Chain}
-use Rattle.chain.specs.declared.Decision.{Decision}
-use Rattle.chain.specs.declared.record.Seen.{Seen}
-use Rattle.chain.specs.Record.{slotState, lookOf}
-use Rattle.chain.specs.Decision.{heardOf}
-use Rattle.chain.specs.Signals.{with-command, with-request, dataOf, requestOf}
-use Rattle.chain.specs.Deeds.{saidOf, fileAfter}
-use Rattle.chain.specs.Decide as chain
-use Rattle.chain.specs.Apply.{putOf, passSlot, changedOf, applied}
-use Rattle.chain.proofs.Facts.{state-there}
+use Rattle.record.specs.declared.Chain.{Chain}
+use Rattle.decision.specs.declared.Decision.{Decision}
+use Rattle.decision.specs.declared.Seen.{Seen}
+use Rattle.record.specs.Record.{slotState, lookOf}
+use Rattle.decision.specs.Decision.{heardOf}
+use Rattle.kinds.specs.Signals.{with-command, with-request, dataOf, requestOf}
+use Rattle.decision.specs.Deeds.{saidOf, fileAfter}
+use Rattle.kinds.specs.Passing as kinds
+use Rattle.chain.specs.Decide.{decideOf}
+use Rattle.record.specs.Apply.{putOf, passSlot, changedOf, applied}
+use Rattle.soundness.proofs.Facts.{state-there}
 use Rattle.exchange.specs.Host.{Signal, level, ask, micros}
 use Rattle.exchange.specs.Unit.{Met, Wired, risen, fallen, passed, asked, after, answer, unit}
 use Rattle.exchange.proofs.Like.{Alike}
@@ -84,11 +85,11 @@ module _ (c : Chain) (file : List ℕ) where
 
     -- kind 4
     level-after : (v : ℕ) (u : Wired Body) → decided .after (level v) (around u) ≡ around (after (drive (lookOf c .profile)) (level v) u)
-    unfolding chain.decideOf heardOf applied changedOf
+    unfolding decideOf heardOf applied changedOf
     level-after v u = ap (λ (d : Seen). obeyed u (dataOf d (around u .chain .lines) v)) (seen u)
 
     level-answer : (v : ℕ) (u : Wired Body) → decided .answer (level v) (around u) ≡ 0
-    unfolding chain.decideOf heardOf
+    unfolding decideOf heardOf
     level-answer v u = ap (λ (d : Seen). said (dataOf d (around u .chain .lines) v)) (seen u)
 
     -- a state put into the selected slot
@@ -155,27 +156,27 @@ module _ (c : Chain) (file : List ℕ) where
           (slot-pass-pass (u .elapsed) us) (c .packs) (c .states))
           (fitted-pass us)
 
-      pass-after : (us : ℕ) → obeyed u (chain.passOf (sight state) lines (record { 0 = us })) ≡ around (after (drive (lookOf c .profile)) (micros us) u)
-      unfolding chain.passOf applied changedOf
+      pass-after : (us : ℕ) → obeyed u (kinds.passOf (sight state) lines (record { 0 = us })) ≡ around (after (drive (lookOf c .profile)) (micros us) u)
+      unfolding kinds.passOf applied changedOf
       pass-after us = ap (λ (states : List State). put states (u .request)) (slots-pass us)
 
-      pass-said : (us : ℕ) → said (chain.passOf (sight state) lines (record { 0 = us })) ≡ answer (drive (lookOf c .profile)) (micros us) u
-      unfolding chain.passOf
+      pass-said : (us : ℕ) → said (kinds.passOf (sight state) lines (record { 0 = us })) ≡ answer (drive (lookOf c .profile)) (micros us) u
+      unfolding kinds.passOf
       pass-said us = pass-answer (lookOf c .profile) u us
 
     -- the chain does what its selected drive does, and all others pass the time
     follows : (e : Signal) (u : Wired Body) → decided .after e (around u) ≡ around (after (drive (lookOf c .profile)) e u)
-    unfolding chain.decideOf
+    unfolding decideOf
     follows (level v) u = level-after v u
     follows (ask v) u =
         ap (λ (d : Seen). obeyed u (requestOf d (lines u) v)) (seen u) ∙ ask-after u v (eqb (u .request) v) (eqb v 1) refl refl
-    follows (micros us) u = ap (λ (d : Seen). obeyed u (chain.passOf d (lines u) (record { 0 = us }))) (seen u) ∙ pass-after u us
+    follows (micros us) u = ap (λ (d : Seen). obeyed u (kinds.passOf d (lines u) (record { 0 = us }))) (seen u) ∙ pass-after u us
 
     says : (e : Signal) (u : Wired Body) → decided .answer e (around u) ≡ answer (drive (lookOf c .profile)) e u
-    unfolding chain.decideOf
+    unfolding decideOf
     says (level v) u = level-answer v u
     says (ask v) u = ap (λ (d : Seen). said (requestOf d (lines u) v)) (seen u) ∙ ask-answer u v (eqb (u .request) v) (eqb v 1) refl refl
-    says (micros us) u = ap (λ (d : Seen). said (chain.passOf d (lines u) (record { 0 = us }))) (seen u) ∙ pass-said u us
+    says (micros us) u = ap (λ (d : Seen). said (kinds.passOf d (lines u) (record { 0 = us }))) (seen u) ∙ pass-said u us
 
     abbrev pub Like : Wired Body → Lent → Type 0
     Like u d = around u ≡ d

@@ -25,13 +25,14 @@ use Rattle.word.specs.declared.Told.the-variants.{Nothing, Word}
 use Rattle.word.specs.declared.Answered.{Answered}
 use Rattle.word.specs.Rules.{carryOf, plainOf}
 use Rattle.event.specs.Answer.{numberOf}
-use Rattle.chain.specs.declared.Chain.{Chain}
-use Rattle.chain.specs.Record.{slotState, lookOf}
-use Rattle.chain.specs.Decision.{outcomeAnswer}
-use Rattle.chain.specs.Signals.{with-command, with-request}
-use Rattle.chain.specs.Decide as chain
-use Rattle.chain.specs.Apply.{putOf, passSlot, changedOf, applied}
-use Rattle.chain.proofs.Facts.{sound, state-there, chosen}
+use Rattle.record.specs.declared.Chain.{Chain}
+use Rattle.record.specs.Record.{slotState, lookOf}
+use Rattle.decision.specs.Decision.{outcomeAnswer}
+use Rattle.kinds.specs.Signals.{with-command, with-request}
+use Rattle.kinds.specs.Passing as kinds
+use Rattle.chain.specs.Decide.{decideOf}
+use Rattle.record.specs.Apply.{putOf, passSlot, changedOf, applied}
+use Rattle.soundness.proofs.Facts.{sound, state-there, chosen}
 use Rattle.exchange.specs.Host.{Sending, Exchanged, exchanges}
 use Rattle.exchange.specs.Waits.{levelOf, sentLevel, fetchLevel, wordOf, bitsOf, timeOf, sentTime, fetchTime, sentCount, fetchCount, InTime}
 use Rattle.exchange.specs.Unit.{Wired, unit}
@@ -99,7 +100,7 @@ module _ (c : Chain) (file : List ℕ) (r : Resting c) where
   with-slots states = record { packs = c .packs; states = states; lines = c .lines; length = c .length }
 
   all-passed : (us : ℕ) → passed us c ≡ with-slots (slots c file us)
-  unfolding applied changedOf chain.decideOf chain.passOf
+  unfolding applied changedOf decideOf kinds.passOf
   all-passed us = refl
 
   drive-passed : (us : ℕ) → driveOf (passed us c) ≡ stateOf (time.passBody (record { 0 = us }) b) noTransfer
@@ -137,7 +138,7 @@ module _ (c : Chain) (file : List ℕ) (r : Resting c) where
     -- what the plain word rules leave, the others' time passed and the data level apart
     ended : (level : ℕ) (body : Body) → plain n (passed us c) .state ≡ stateOf body noTransfer
         → around c file (alone.rests body level us) ≡ record { chain = given n level (passed us c); file = file }
-    unfolding applied changedOf chain.decideOf chain.passOf putOf
+    unfolding applied changedOf decideOf kinds.passOf putOf
     ended level body e = λ i. record {
       chain = record { packs = c .packs; states = put i; lines = with-request (low i) (with-command level (c .lines)); length = c .length };
       file = file;

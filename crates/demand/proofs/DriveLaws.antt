@@ -14,7 +14,7 @@ use Rattle.word.specs.declared.Told.the-variants.{Nothing, Word}
 use Rattle.word.specs.Rules.{doneOf, carryOf}
 use Rattle.word.proofs.Laws.{told-calm}
 use Rattle.event.specs.Answer.{numberOf}
-use Rattle.chain.specs.Decision.{outcomeAnswer}
+use Rattle.decision.specs.Decision.{outcomeAnswer}
 use Rattle.keeps.proofs.Time.{calm-stays, body-twice, body-zero, latch-later}
 use Rattle.exchange.proofs.Laws.{Laws}
 use Rattle.demand.specs.Drive.{toldOf, faultB, drive}

@@ -22,11 +22,12 @@ use Rattle.unit.proofs.Facts.{selected}
 use Rattle.keeps.proofs.Facts.{unselected}
 use Rattle.keeps.proofs.Time.{pass-zero}
 use Rattle.keeps.proofs.Left.{Idle, idle, left-none, by-way}
-use Rattle.chain.specs.declared.Chain.{Chain}
-use Rattle.chain.specs.Record.{slotB, slotPack, fittedB, lookOf}
-use Rattle.chain.specs.Apply.{passSlot}
-use Rattle.chain.specs.Sound.{driveB, soundB}
-use Rattle.chain.proofs.Facts.{sound, slot-of, pack-there}
+use Rattle.record.specs.declared.Chain.{Chain}
+use Rattle.record.specs.Record.{slotB, slotPack, lookOf}
+use Rattle.decision.specs.Decision.{fittedB}
+use Rattle.record.specs.Apply.{passSlot}
+use Rattle.soundness.specs.Sound.{driveB, soundB}
+use Rattle.soundness.proofs.Facts.{sound, slot-of, pack-there}
 use Rattle.demand.proofs.Slots.{map-still, as-long}
 
 inside : (packs : List Pack) (i : ℕ) → getD packs i noPack .fitted ≡ 1 → i < length packs

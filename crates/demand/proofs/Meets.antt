@@ -20,8 +20,8 @@ use Rattle.word.specs.Rules.{carryOf}
 use Rattle.unit.specs.declared.Lines.{Lines}
 use Rattle.unit.specs.Request as unit
 use Rattle.event.specs.Answer.{numberOf}
-use Rattle.chain.specs.Decision.{outcomeAnswer}
-use Rattle.chain.specs.Apply.{passSlot}
+use Rattle.decision.specs.Decision.{outcomeAnswer}
+use Rattle.record.specs.Apply.{passSlot}
 use Rattle.keeps.proofs.Time.{pass-pass}
 use Rattle.exchange.specs.Unit.{Met, Wired, afterWord, met, held, risen, fallen, passed}
 use Rattle.demand.specs.Drive.{toldOf, drive}

@@ -9,8 +9,8 @@ use Rattle.word.specs.declared.Told.the-variants.{Word}
 use Rattle.word.specs.declared.Answered.{Answered}
 use Rattle.word.specs.Rules.{refusesB, plainOf}
 use Rattle.word.proofs.Laws.{told-reply}
-use Rattle.chain.specs.declared.Chain.{Chain}
-use Rattle.chain.specs.Record.{lookOf}
+use Rattle.record.specs.declared.Chain.{Chain}
+use Rattle.record.specs.Record.{lookOf}
 use Rattle.demand.specs.Decided.{driveOf}
 use Rattle.demand.specs.AtOnce.{plain}
 

@@ -11,13 +11,15 @@ use Rattle.event.specs.declared.Decoded.{Decoded}
 use Rattle.event.specs.declared.Decoded.the-variants.{Is}
 use Rattle.event.specs.Decode.{ranged, lineOf, rowOf, decodeOf}
 use Rattle.event.specs.Answer.{numberOf}
-use Rattle.chain.specs.declared.Deed.{Deed}
-use Rattle.chain.specs.declared.Deed.the-variants.{Say, Read, Write}
-use Rattle.chain.specs.Deeds.{fileAfter}
-use Rattle.chain.specs.Apply.{applied}
-use Rattle.chain.specs.Sound.{soundB}
+use Rattle.decision.specs.declared.Decision.{Decision}
+use Rattle.decision.specs.declared.Deed.{Deed}
+use Rattle.decision.specs.declared.Deed.the-variants.{Say, Read, Write}
+use Rattle.decision.specs.Deeds.{fileAfter}
+use Rattle.record.specs.Apply.{applied}
+use Rattle.soundness.specs.Sound.{soundB}
 use Rattle.board.specs.declared.Stepped.{Stepped}
-use Rattle.board.specs.Step.{performed, goOf, goFile, decodedOf, decodedFile, stepOf, stepFile}
+use Rattle.judge.specs.Judge.{decodedOf, allowedOf, judgedOf}
+use Rattle.board.specs.Step.{performed, stepOf, stepFile}
 use Rattle.laws.proofs.Kept.{sound-kept}
 use Rattle.exchange.specs.Host.{Signal, level, ask, micros, Still, waits, sets, Bit, Gap, Sending, high, exchanges}
 use Rattle.exchange.specs.Waits.{timeOf, BitsFit, GapsFit, InTime, Each, EachOfBits, EachOfGaps, EachWait}
@@ -41,21 +43,19 @@ as-long (Write i byte) file = length-set file i byte
 
 -- on a sound chain with its own file a step is the decision carried out
 module _ (e : Signal) (d : Lent) (f : InRange e) (s : soundB (d .chain) ≡ true) (l : length (d .file) ≡ d .chain .length .0) where
-  goes : goOf (eventOf e) (d .chain) (d .file) ≡ performed (d .chain) (d .file) (decisionOf e d)
-  unfolding goOf
-  goes = rw (s, eq-eqb (length (d .file)) (d .chain .length .0) l)
-
-  leaves : goFile (eventOf e) (d .chain) (d .file) ≡ fileAfter (decisionOf e d .deed) (d .file)
-  unfolding goFile
-  leaves = rw (s, eq-eqb (length (d .file)) (d .chain .length .0) l)
+  judged-is : judgedOf (d .chain) (length (d .file)) (kindOf e) (operandOf e) 0 ≡ decisionOf e d
+  unfolding judgedOf allowedOf
+  judged-is =
+      ap (λ (x : Decoded). decodedOf (d .chain) (length (d .file)) x) (decodes e f)
+      ∙ rw (s, eq-eqb (length (d .file)) (d .chain .length .0) l)
 
   step-is : steppedBy e d ≡ performed (d .chain) (d .file) (decisionOf e d)
   unfolding stepOf
-  step-is = ap (λ (x : Decoded). decodedOf x (d .chain) (d .file)) (decodes e f) ∙ goes
+  step-is = ap (performed (d .chain) (d .file)) judged-is
 
   file-is : stepFile (kindOf e) (operandOf e) 0 (d .chain) (d .file) ≡ fileAfter (decisionOf e d .deed) (d .file)
   unfolding stepFile
-  file-is = ap (λ (x : Decoded). decodedFile x (d .chain) (d .file)) (decodes e f) ∙ leaves
+  file-is = ap (λ (x : Decision). fileAfter (x .deed) (d .file)) judged-is
 
   after-is : decided .after e d ≡ stepped .after e d
   after-is = λ i. record { chain = sym step-is i .chain; file = sym file-is i }

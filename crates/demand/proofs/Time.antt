@@ -13,12 +13,14 @@ use Rattle.drive.specs.State.{blankState}
 use Rattle.drive.specs.Status.{completeB}
 use Rattle.drive.specs.Time as time
 use Rattle.keeps.proofs.Time.{complete-after}
-use Rattle.chain.specs.declared.Chain.{Chain}
-use Rattle.chain.specs.Record.{slotPack, slotState, fittedB}
-use Rattle.chain.specs.Decide as chain
-use Rattle.chain.specs.Apply.{passSlot, changedOf, applied}
-use Rattle.chain.specs.Sound.{soundB}
-use Rattle.chain.proofs.Facts.{state-there}
+use Rattle.record.specs.declared.Chain.{Chain}
+use Rattle.record.specs.Record.{slotPack, slotState}
+use Rattle.decision.specs.Decision.{fittedB}
+use Rattle.kinds.specs.Passing as kinds
+use Rattle.chain.specs.Decide.{decideOf}
+use Rattle.record.specs.Apply.{passSlot, changedOf, applied}
+use Rattle.soundness.specs.Sound.{soundB}
+use Rattle.soundness.proofs.Facts.{state-there}
 use Rattle.exchange.specs.Host.{micros, Still, waits, Going, going, sends, goes}
 use Rattle.exchange.specs.Waits.{timeOf}
 use Rattle.demand.specs.Decided.{Lent, decided}
@@ -29,7 +31,7 @@ use Rattle.demand.proofs.Here.{there, none-passes}
 
 -- every chain, open transfers included
 pub time-splits : (s t : ℕ) (c : Chain) → passed t (passed s c) ≡ passed (s + t) c
-unfolding applied changedOf chain.decideOf chain.passOf
+unfolding applied changedOf decideOf kinds.passOf
 time-splits s t c = λ i. record {
   packs = c .packs;
   states = map-map (passSlot (record { 0 = s })) (passSlot (record { 0 = t })) (passSlot (record { 0 = s + t })) (slot-pass-pass s t) (c .packs) (c .states) i;
@@ -38,7 +40,7 @@ time-splits s t c = λ i. record {
 }
 
 pub no-time : (c : Chain) → soundB c ≡ true → passed 0 c ≡ c
-unfolding applied changedOf chain.decideOf chain.passOf
+unfolding applied changedOf decideOf kinds.passOf
 no-time c h = λ i. record { packs = c .packs; states = none-passes c h i; lines = c .lines; length = c .length }
 
 abbrev lent : Chain → List ℕ → Lent
@@ -46,7 +48,7 @@ lent c file = record { chain = c; file = file }
 
 one-pass : (us : ℕ) (c : Chain) (file log : List ℕ)
     → sends decided (micros us) (going (lent c file) log) ≡ going (lent (passed us c) file) (decided .answer (micros us) (lent c file) ∷ log)
-unfolding chain.decideOf chain.passOf
+unfolding decideOf kinds.passOf
 one-pass us c file log = refl
 
 abbrev waiting : List ℕ → List Still
@@ -75,7 +77,7 @@ waits-pass ws c file log h =
 -- with no transfer open an untouched drive is complete once its greater timer has passed
 module _ (c : Chain) (h : soundB c ≡ true) (k us : ℕ) (fitted : fittedB (slotPack (c .packs) k) ≡ true) where
   in-slot : slotState (passed us c .states) k ≡ time.passOf (record { 0 = us }) (slotState (c .states) k) .state
-  unfolding applied changedOf chain.decideOf chain.passOf passSlot
+  unfolding applied changedOf decideOf kinds.passOf passSlot
   in-slot =
       let at = there c k h fitted in
       state-there k _ (at .slot)

@@ -14,13 +14,13 @@ use Rattle.word.specs.declared.Answered.{Answered}
 use Rattle.word.specs.Rules.{carryOf, plainOf}
 use Rattle.event.specs.declared.Event.the-variants.{Pass}
 use Rattle.event.specs.Answer.{numberOf}
-use Rattle.chain.specs.declared.Chain.{Chain}
-use Rattle.chain.specs.Record.{lookOf}
-use Rattle.chain.specs.Decision.{outcomeAnswer}
-use Rattle.chain.specs.Signals.{with-command}
+use Rattle.record.specs.declared.Chain.{Chain}
+use Rattle.record.specs.Record.{lookOf}
+use Rattle.decision.specs.Decision.{outcomeAnswer}
+use Rattle.kinds.specs.Signals.{with-command}
 use Rattle.chain.specs.Decide.{decideOf}
-use Rattle.chain.specs.Apply.{putOf, applied}
-use Rattle.chain.specs.Sound.{soundB}
+use Rattle.record.specs.Apply.{putOf, applied}
+use Rattle.soundness.specs.Sound.{soundB}
 use Rattle.exchange.specs.Host.{Sending, Exchanged}
 use Rattle.exchange.specs.Waits.{levelOf, sentLevel, fetchLevel, wordOf, bitsOf, timeOf, sentTime, fetchTime, sentCount, fetchCount}
 use Rattle.exchange.specs.AtOnce.{zeros}

@@ -7,12 +7,12 @@ use Rattle.drive.specs.declared.State.{State}
 use Rattle.event.specs.declared.Event.{Event}
 use Rattle.event.specs.declared.Event.the-variants.{Data, Request, Pass}
 use Rattle.event.specs.Answer.{numberOf}
-use Rattle.chain.specs.declared.Chain.{Chain}
-use Rattle.chain.specs.declared.Decision.{Decision}
-use Rattle.chain.specs.Record.{lookOf}
-use Rattle.chain.specs.Deeds.{saidOf, fileAfter}
+use Rattle.record.specs.declared.Chain.{Chain}
+use Rattle.decision.specs.declared.Decision.{Decision}
+use Rattle.record.specs.Record.{lookOf}
+use Rattle.decision.specs.Deeds.{saidOf, fileAfter}
 use Rattle.chain.specs.Decide.{decideOf}
-use Rattle.chain.specs.Apply.{applied}
+use Rattle.record.specs.Apply.{applied}
 use Rattle.exchange.specs.Host.{Signal, level, ask, micros, Cable}
 
 -- a chain record and the file lent with it

@@ -11,6 +11,7 @@ use lib.ListN.{length, getD, set}
 use lib.Seq.{set-getD}
 use Rattle.counts.specs.declared.Position.{Position}
 use Rattle.counts.specs.Choice.{if_then_else_}
+use Rattle.counts.proofs.Choice.{by-test}
 use Rattle.drive.specs.declared.State.{State}
 use Rattle.drive.specs.declared.Outcome.{Outcome}
 use Rattle.drive.specs.declared.Outcome.the-variants.{Done, Inhibited, Fault}
@@ -18,26 +19,27 @@ use Rattle.drive.specs.declared.Ruled.{Ruled}
 use Rattle.drive.specs.State.{blankState}
 use Rattle.drive.specs.Gates.{readFalls}
 use Rattle.drive.specs.Heads.{leftOf}
-use Rattle.drive.specs.Time as time
 use Rattle.event.specs.declared.Answer.the-variants as answer
 use Rattle.event.specs.declared.Event.{Event}
 use Rattle.event.specs.declared.Event.the-variants.{Select, Heads, WriteGate, ReadGate, Data, Request, Pass, Cell, Condition}
 use Rattle.event.specs.declared.Decoded.the-variants.{Is}
 use Rattle.event.specs.Decode.{decodeOf}
 use Rattle.unit.specs.declared.Lines.{Lines}
-use Rattle.chain.specs.declared.Chain.{Chain}
-use Rattle.chain.specs.declared.Decision.{Decision}
-use Rattle.chain.specs.declared.record.Seen.{Seen}
-use Rattle.chain.specs.Record.{slotB, slotState, lookOf}
-use Rattle.chain.specs.Decision.{outcomeAnswer}
-use Rattle.chain.specs.Deeds.{saidOf, fileAfter}
-use Rattle.chain.specs.Select.{eitherAnswer}
-use Rattle.chain.specs.Decide.{passOf, cellPlace, decideOf}
-use Rattle.chain.specs.Apply.{putOf, changedOf, applied}
-use Rattle.chain.specs.Sound.{soundB}
-use Rattle.chain.proofs.Facts.{cell-in-file}
-use Rattle.board.specs.declared.Stepped.{Stepped}
-use Rattle.board.specs.Step.{goOf, goFile, stepOf, stepFile}
+use Rattle.record.specs.declared.Chain.{Chain}
+use Rattle.decision.specs.declared.Decision.{Decision}
+use Rattle.decision.specs.declared.Seen.{Seen}
+use Rattle.record.specs.Record.{slotB, slotState, lookOf}
+use Rattle.decision.specs.Decision.{outcomeAnswer}
+use Rattle.decision.specs.Deeds.{saidOf, fileAfter}
+use Rattle.kinds.specs.Select.{eitherAnswer}
+use Rattle.kinds.specs.Passing.{passOf}
+use Rattle.kinds.specs.Cell.{cellPlace}
+use Rattle.chain.specs.Decide.{decideOf}
+use Rattle.record.specs.Apply.{putOf, changedOf, applied}
+use Rattle.soundness.specs.Sound.{soundB}
+use Rattle.soundness.proofs.Facts.{cell-in-file}
+use Rattle.judge.specs.Judge.{allowedOf, judgedOf}
+use Rattle.board.specs.Step.{stepOf, stepFile}
 use Rattle.laws.specs.Levels.{linesAfter}
 use Rattle.laws.specs.Applies.{ruleOf}
 use Rattle.laws.specs.Column.{Leaves}
@@ -144,23 +146,18 @@ module _ (c : Chain) (file : List ℕ) (h : soundB c ≡ true) (n : length file 
   decision-leaves = walk c P cases
 
 module _ (c : Chain) (file : List ℕ) where
-  abbrev Left : Event → Stepped → List ℕ → Type 0
-  Left e r after = Leaves e c file (r .answer) (r .chain) after
+  abbrev Left : Event → Decision → Type 0
+  Left e d = Leaves e c file (saidOf (d .deed) file) (applied c d) (fileAfter (d .deed) file)
 
-  if-left : (e : Event) (t : Bool) (x y : Stepped) (u v : List ℕ) → (t ≡ true → Left e x u) → (t ≡ false → Left e y v)
-      → Left e (if t then x else y) (if t then u else v)
-  if-left e true x y u v p q = p refl
-  if-left e false x y u v p q = q refl
-
-  gone : (e : Event) → Left e (goOf e c file) (goFile e c file)
-  unfolding goOf goFile
-  gone e =
-      if-left e (not (soundB c)) _ _ _ _ (λ m. (refl, refl))
-      (λ s. if-left e (not (eqb (length file) (c .length .0))) _ _ _ _ (λ w. (refl, refl))
+  allowed : (e : Event) → Left e (allowedOf c (length file) e)
+  unfolding allowedOf applied changedOf
+  allowed e =
+      by-test (Left e) (not (soundB c)) _ _ (λ m. (refl, refl))
+      (λ s. by-test (Left e) (not (eqb (length file) (c .length .0))) _ _ (λ w. (refl, refl))
       (λ n. decision-leaves c file (not-false _ s) (eqb-true _ _ (not-false _ n)) e))
 
   -- whatever the record and the file, of every event
   pub answer-leaves : (kind a b : ℕ) (e : Event) → decodeOf kind a b ≡ Is e
       → Leaves e c file (stepOf kind a b c file .answer) (stepOf kind a b c file .chain) (stepFile kind a b c file)
-  unfolding stepOf stepFile
-  answer-leaves kind a b e q = rw q (gone e)
+  unfolding stepOf stepFile judgedOf
+  answer-leaves kind a b e q = rw q (allowed e)

@@ -20,11 +20,12 @@ use Rattle.drive.specs.declared.State.{State}
 use Rattle.drive.specs.State.{blankState}
 use Rattle.unit.specs.declared.Lines.{Lines}
 use Rattle.unit.specs.Sound as unit
-use Rattle.chain.specs.declared.Chain.{Chain}
-use Rattle.chain.specs.Record.{slotB, slotPack, slotState, fittedB}
-use Rattle.chain.specs.Apply.{putOf}
-use Rattle.chain.specs.Sound.{driveB, soundB}
-use Rattle.chain.proofs.Facts.{sound, all-at, InFile, placed-at, blank-drive, slot-of, pack-there, state-there}
+use Rattle.record.specs.declared.Chain.{Chain}
+use Rattle.record.specs.Record.{slotB, slotPack, slotState}
+use Rattle.decision.specs.Decision.{fittedB}
+use Rattle.record.specs.Apply.{putOf}
+use Rattle.soundness.specs.Sound.{driveB, soundB}
+use Rattle.soundness.proofs.Facts.{sound, all-at, InFile, placed-at, blank-drive, slot-of, pack-there, state-there}
 
 -- a state put into a slot, looked at from a slot
 module _ (states : List State) (slot : ℕ) (s : State) where

@@ -29,22 +29,23 @@ use Rattle.event.specs.declared.Event.the-variants.{Select, Heads, WriteGate, R
 use Rattle.event.specs.declared.Decoded.the-variants.{Is}
 use Rattle.event.specs.Decode.{decodeOf}
 use Rattle.unit.specs.declared.Lines.{Lines}
-use Rattle.unit.specs.Sound as unit
 use Rattle.keeps.proofs.Facts.{unselected}
-use Rattle.chain.specs.declared.Chain.{Chain}
-use Rattle.chain.specs.declared.Deed.{Deed}
-use Rattle.chain.specs.declared.Deed.the-variants.{Say, Read, Write}
-use Rattle.chain.specs.declared.Decision.{Decision}
-use Rattle.chain.specs.declared.record.Seen.{Seen}
-use Rattle.chain.specs.Record.{slotPack, slotState, fittedB, lookOf}
-use Rattle.chain.specs.Decision.{outcomeAnswer}
-use Rattle.chain.specs.Deeds.{saidOf}
-use Rattle.chain.specs.Select.{eitherAnswer}
-use Rattle.chain.specs.Decide.{passOf, decideOf}
-use Rattle.chain.specs.Sound.{soundB}
-use Rattle.chain.proofs.Facts.{state-there}
-use Rattle.board.specs.declared.Stepped.{Stepped}
-use Rattle.board.specs.Step.{goOf, stepOf}
+use Rattle.record.specs.declared.Chain.{Chain}
+use Rattle.decision.specs.declared.Deed.{Deed}
+use Rattle.decision.specs.declared.Deed.the-variants.{Say, Read, Write}
+use Rattle.decision.specs.declared.Decision.{Decision}
+use Rattle.decision.specs.declared.Seen.{Seen}
+use Rattle.record.specs.Record.{slotPack, slotState, lookOf}
+use Rattle.decision.specs.Decision.{fittedB}
+use Rattle.decision.specs.Decision.{outcomeAnswer}
+use Rattle.decision.specs.Deeds.{saidOf}
+use Rattle.kinds.specs.Select.{eitherAnswer}
+use Rattle.kinds.specs.Passing.{passOf}
+use Rattle.chain.specs.Decide.{decideOf}
+use Rattle.soundness.specs.Sound.{soundB}
+use Rattle.soundness.proofs.Facts.{state-there}
+use Rattle.judge.specs.Judge.{allowedOf, judgedOf}
+use Rattle.board.specs.Step.{stepOf}
 use Rattle.laws.specs.Levels.{linesAfter, movesB}
 use Rattle.laws.specs.Applies.{ruleOf, ifAny, timeMeets, meets, faultB, inhibitedB, askedB, unselectedB, firstBy, firstApplies}
 use Rattle.laws.proofs.Walk.{lineB, Cases, walk, enteredOf}
@@ -332,12 +333,12 @@ module _ (c : Chain) (file : List ℕ) (e : Event) where
   said h (Read i) g = λ s one two. absurd (one refl)
   said h (Write i byte) g = λ s one two. absurd (two refl)
 
-  abbrev Gives : Stepped → Type 0
-  Gives r = First (r .answer)
+  abbrev Gives : Decision → Type 0
+  Gives d = First (saidOf (d .deed) file)
 
-  gone : Gives (goOf e c file)
-  unfolding goOf
-  gone =
+  allowed : Gives (allowedOf c (length file) e)
+  unfolding allowedOf
+  allowed =
       by-test Gives (not (soundB c)) _ _ (λ t s one two. absurd (omega arith))
       (λ h. by-test Gives (not (eqb (length file) (c .length .0))) _ _ (λ t s one two. absurd (omega arith))
       (λ n. said (not-false _ h) (decideOf c e .deed) (decision-first c (not-false _ h) e)))
@@ -347,5 +348,5 @@ module _ (c : Chain) (file : List ℕ) (e : Event) where
       → numberOf (stepOf kind a b c file .answer) ≤ 5
       → (numberOf (stepOf kind a b c file .answer) ≡ 1 → ⊥) → (numberOf (stepOf kind a b c file .answer) ≡ 2 → ⊥)
       → numberOf (stepOf kind a b c file .answer) ≡ firstApplies c e
-  unfolding stepOf
-  first-given kind a b q = rw q gone
+  unfolding stepOf judgedOf
+  first-given kind a b q = rw q allowed

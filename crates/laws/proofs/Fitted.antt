@@ -33,12 +33,12 @@ use Rattle.drive.specs.State.{freshOf}
 use Rattle.event.specs.declared.Event.{Event}
 use Rattle.unit.specs.Sound as unit
 use Rattle.keeps.proofs.Keeps.{fresh-sound}
-use Rattle.chain.specs.declared.Chain.{Chain}
+use Rattle.record.specs.declared.Chain.{Chain}
 use Rattle.chain.specs.Fresh.{lowLines, freshSlot, blankStates, endOf, fitOf}
 use Rattle.chain.specs.Decide.{decideOf}
-use Rattle.chain.specs.Sound.{placedOf, placesB, driveB, soundB}
-use Rattle.board.specs.Step.{performed, goOf}
-use Rattle.chain.proofs.Facts.{guarded, placed-at}
+use Rattle.soundness.specs.Sound.{placedOf, placesB, driveB, soundB}
+use Rattle.judge.specs.Judge.{allowedOf}
+use Rattle.soundness.proofs.Facts.{guarded, placed-at}
 
 never : _≡_ {A = ℕ} 0 1 → ⊥
 never z = omega arith
@@ -236,6 +236,6 @@ fitted-sound file small = by (readAll file .answer) refl
 
 -- so an event on it is answered by the rules: neither 22 nor 23 stands in front of them
 pub fitted-goes : (file : List ℕ) → Bytes file → readAll file .answer ≡ Whole → (e : Event)
-    → goOf e (fitOf file .chain) file ≡ performed (fitOf file .chain) file (decideOf (fitOf file .chain) e)
-unfolding goOf
+    → allowedOf (fitOf file .chain) (length file) e ≡ decideOf (fitOf file .chain) e
+unfolding allowedOf
 fitted-goes file small w e = rw (whole-sound file small w, eq-eqb _ _ (sym (fitted-length file small w)))

@@ -22,23 +22,26 @@ use Rattle.drive.specs.Heads.{leftOf}
 use Rattle.event.specs.declared.Decoded.{Decoded}
 use Rattle.event.specs.declared.Decoded.the-variants.{Is, Unknown, Range}
 use Rattle.event.specs.Decode.{decodeOf}
+use Rattle.event.specs.declared.Answer.{Answer}
 use Rattle.event.specs.declared.Event.{Event}
 use Rattle.event.specs.declared.Event.the-variants.{Select, Heads, WriteGate, ReadGate, Data, Request, Pass, Cell, Condition}
 use Rattle.unit.specs.declared.Lines.{Lines}
 use Rattle.unit.specs.Request.{requestRises, requestFalls}
 use Rattle.unit.specs.Sound as unit
 use Rattle.keeps.proofs.Keeps as keeps
-use Rattle.chain.specs.declared.Chain.{Chain}
-use Rattle.chain.specs.declared.Decision.{Decision}
-use Rattle.chain.specs.Record.{slotPack, slotState, fittedB, lookOf}
-use Rattle.chain.specs.Decision.{doneOf}
-use Rattle.chain.specs.Signals.{with-select, with-writegate, with-readgate, with-command, with-request}
-use Rattle.chain.specs.Decide.{passOf, decideOf}
-use Rattle.chain.specs.Apply.{putOf, passSlot, changedOf, applied}
-use Rattle.chain.specs.Sound.{soundB}
-use Rattle.chain.proofs.Facts.{sound, slot-of}
-use Rattle.board.specs.declared.Stepped.{Stepped}
-use Rattle.board.specs.Step.{goOf, decodedOf, stepOf}
+use Rattle.record.specs.declared.Chain.{Chain}
+use Rattle.decision.specs.declared.Decision.{Decision}
+use Rattle.record.specs.Record.{slotPack, slotState, lookOf}
+use Rattle.decision.specs.Decision.{fittedB}
+use Rattle.decision.specs.Decision.{sayOf, doneOf}
+use Rattle.kinds.specs.Signals.{with-select, with-writegate, with-readgate, with-command, with-request}
+use Rattle.kinds.specs.Passing.{passOf}
+use Rattle.chain.specs.Decide.{decideOf}
+use Rattle.record.specs.Apply.{putOf, passSlot, changedOf, applied}
+use Rattle.soundness.specs.Sound.{soundB}
+use Rattle.soundness.proofs.Facts.{sound, slot-of}
+use Rattle.judge.specs.Judge.{allowedOf, decodedOf, judgedOf}
+use Rattle.board.specs.Step.{stepOf}
 use Rattle.laws.specs.Levels.{linesAfter, movesB}
 use Rattle.laws.specs.Applies.{ruleOf}
 use Rattle.laws.proofs.Walk.{Cases, walk, enteredOf}
@@ -255,20 +258,24 @@ module _ (c : Chain) (h : soundB c ≡ true) where
   decision-kept : (e : Event) → InRange e → soundB (applied c (decideOf c e)) ≡ true
   decision-kept = walk c P cases
 
-  abbrev Stays : Stepped → Type 0
-  Stays x = soundB (x .chain) ≡ true
+  abbrev Stays : Decision → Type 0
+  Stays d = soundB (applied c d) ≡ true
 
-  gone : (e : Event) (file : List ℕ) → InRange e → soundB (goOf e c file .chain) ≡ true
-  unfolding goOf
-  gone e file r =
-      by-test Stays (not (soundB c)) _ _ (λ t. h) (λ t. by-test Stays (not (eqb (length file) (c .length .0))) _ _ (λ t. h) (λ t. decision-kept e r))
+  refusal : (a : Answer) → Stays (sayOf (c .lines) a)
+  unfolding applied changedOf
+  refusal a = h
+
+  allowed : (e : Event) (n : ℕ) → InRange e → Stays (allowedOf c n e)
+  unfolding allowedOf
+  allowed e n r =
+      by-test Stays (not (soundB c)) _ _ (λ t. refusal _) (λ t. by-test Stays (not (eqb n (c .length .0))) _ _ (λ t. refusal _) (λ t. decision-kept e r))
 
   -- every event, whatever its numbers and the file
   pub sound-kept : (kind a b : ℕ) (file : List ℕ) → soundB (stepOf kind a b c file .chain) ≡ true
-  unfolding stepOf
+  unfolding stepOf judgedOf
   sound-kept kind a b file = by (decodeOf kind a b) refl
     where
-      by : (x : Decoded) → decodeOf kind a b ≡ x → soundB (decodedOf x c file .chain) ≡ true
-      by (Is e) q = gone e file (decoded-range kind a b e q)
-      by Unknown q = h
-      by Range q = h
+      by : (x : Decoded) → decodeOf kind a b ≡ x → Stays (decodedOf c (length file) x)
+      by (Is e) q = allowed e (length file) (decoded-range kind a b e q)
+      by Unknown q = refusal _
+      by Range q = refusal _

@@ -16,16 +16,21 @@ use Rattle.event.specs.declared.Answer.the-variants.{Taken, Unselected, Inhibit
 use Rattle.event.specs.declared.Event.{Event}
 use Rattle.event.specs.declared.Event.the-variants.{Select, Heads, WriteGate, ReadGate, Data, Request, Pass, Cell, Condition}
 use Rattle.unit.specs.declared.Lines.{Lines}
-use Rattle.chain.specs.declared.Chain.{Chain}
-use Rattle.chain.specs.declared.Change.the-variants as change
-use Rattle.chain.specs.declared.Deed.the-variants.{Say, Read, Write}
-use Rattle.chain.specs.declared.Decision.{Decision}
-use Rattle.chain.specs.declared.record.Seen.{Seen}
-use Rattle.chain.specs.Record.{slotPack, slotState, fittedB, lookOf}
-use Rattle.chain.specs.Decision.{sayOf, heardOf, ruledOf}
-use Rattle.chain.specs.Signals.{with-select, with-heads, with-writegate, with-readgate, with-command, with-request, writeGateOf, readGateOf, requestOf, headsOf}
-use Rattle.chain.specs.Select.{leftAlone, bothOf, movedOf, selectOf}
-use Rattle.chain.specs.Decide.{passOf, cellPlace, touching, cellOf, fixedChange, conditionAt, conditionOf, decideOf}
+use Rattle.record.specs.declared.Chain.{Chain}
+use Rattle.decision.specs.declared.Change.the-variants as change
+use Rattle.decision.specs.declared.Deed.the-variants.{Say, Read, Write}
+use Rattle.decision.specs.declared.Decision.{Decision}
+use Rattle.decision.specs.declared.Seen.{Seen}
+use Rattle.record.specs.Record.{slotPack, slotState, lookOf}
+use Rattle.decision.specs.Decision.{fittedB}
+use Rattle.decision.specs.Decision.{sayOf, heardOf, ruledOf}
+use Rattle.kinds.specs.Signals.{with-select, with-heads, with-writegate, with-readgate, with-command, with-request, writeGateOf, readGateOf, requestOf, headsOf}
+use Rattle.kinds.specs.Select.{leftAlone, bothOf, movedOf}
+use Rattle.chain.specs.Decide.{selectOf}
+use Rattle.kinds.specs.Passing.{passOf}
+use Rattle.kinds.specs.Cell.{cellPlace, touching, cellOf}
+use Rattle.kinds.specs.Condition.{fixedChange, conditionAt}
+use Rattle.chain.specs.Decide.{conditionOf, decideOf}
 use Rattle.laws.specs.Levels.{linesAfter, movesB}
 use Rattle.laws.specs.Applies.{ruleOf, askedB}
 

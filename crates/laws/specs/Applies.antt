@@ -17,10 +17,11 @@ use Rattle.event.specs.declared.Event.{Event}
 use Rattle.event.specs.declared.Event.the-variants.{Select, Heads, WriteGate, ReadGate, Data, Request, Pass, Cell, Condition}
 use Rattle.unit.specs.declared.Lines.{Lines}
 use Rattle.unit.specs.Request.{requestRises, requestFalls}
-use Rattle.chain.specs.declared.Chain.{Chain}
-use Rattle.chain.specs.declared.record.Seen.{Seen}
-use Rattle.chain.specs.Record.{slotPack, slotState, fittedB, lookOf}
-use Rattle.chain.specs.Decision.{doneOf}
+use Rattle.record.specs.declared.Chain.{Chain}
+use Rattle.decision.specs.declared.Seen.{Seen}
+use Rattle.record.specs.Record.{slotPack, slotState, lookOf}
+use Rattle.decision.specs.Decision.{fittedB}
+use Rattle.decision.specs.Decision.{doneOf}
 use Rattle.laws.specs.Levels.{linesAfter, movesB}
 
 -- the rule that the selected drive meets where a line of its moves

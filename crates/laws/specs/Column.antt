@@ -10,10 +10,10 @@ use Rattle.event.specs.declared.Event.{Event}
 use Rattle.event.specs.declared.Event.the-variants.{Cell}
 use Rattle.event.specs.declared.Answer.{Answer}
 use Rattle.event.specs.Answer.{numberOf, valueOf}
-use Rattle.chain.specs.declared.Chain.{Chain}
-use Rattle.chain.specs.Record.{lookOf}
-use Rattle.chain.specs.Decide.{cellPlace}
-use Rattle.chain.specs.Apply.{putOf}
+use Rattle.record.specs.declared.Chain.{Chain}
+use Rattle.record.specs.Record.{lookOf}
+use Rattle.kinds.specs.Cell.{cellPlace}
+use Rattle.record.specs.Apply.{putOf}
 use Rattle.laws.specs.Levels.{linesAfter, linesTaken}
 
 -- the event is a cell, the value is the byte that it meets

@@ -4,8 +4,8 @@ use lib.Dec.{eqb}
 use Rattle.event.specs.declared.Event.{Event}
 use Rattle.event.specs.declared.Event.the-variants.{Select, Heads, WriteGate, ReadGate, Data, Request, Pass, Cell, Condition}
 use Rattle.unit.specs.declared.Lines.{Lines}
-use Rattle.chain.specs.declared.Chain.{Chain}
-use Rattle.chain.specs.Signals.{with-select, with-heads, with-writegate, with-readgate, with-command, with-request}
+use Rattle.record.specs.declared.Chain.{Chain}
+use Rattle.kinds.specs.Signals.{with-select, with-heads, with-writegate, with-readgate, with-command, with-request}
 
 -- "line levels taken"
 abbrev pub linesAfter : Event → Lines → Lines

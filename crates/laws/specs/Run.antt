@@ -4,8 +4,8 @@ use mathlib.Core.Path.{_≡_}
 use mathlib.Core.Bool.{true}
 use mathlib.Core.List.{List, [], _∷_}
 use lib.ListN.{length}
-use Rattle.chain.specs.declared.Chain.{Chain}
-use Rattle.chain.specs.Sound.{soundB}
+use Rattle.record.specs.declared.Chain.{Chain}
+use Rattle.soundness.specs.Sound.{soundB}
 use Rattle.board.specs.Step.{stepOf, stepFile}
 
 -- "Each is three numbers: kind, a, b."
