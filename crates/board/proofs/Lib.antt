@@ -1,1 +1,5 @@
 pub mod Leaves
+mod Lend
+mod LendWord
+mod LendFit
+mod LendAlone

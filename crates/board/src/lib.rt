@@ -1,4 +1,6 @@
 // An event in, an answer out, over the lent file. Nothing is expected of the caller: every record, file and number is taken or refused.
+pub mod call;
+
 use decision::Deed;
 use event::Answer;
 use record::Chain;

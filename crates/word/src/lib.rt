@@ -82,7 +82,7 @@ pub fn carry(p: Profile, b: Body, n: u32) -> Carried
 }
 
 // A drive that reads or writes, or whose command complete is false.
-fn refuses(s: State) -> bool
+pub fn refuses(s: State) -> bool
     ensures { λ r. ⌜ r ≡ refusesB s ⌝ }
 {
     (s.body.reading == 1) | (s.body.writing == 1) | !status::complete(s)

@@ -1,0 +1,133 @@
+// What C calls: the record and the file lent, the answer as a number.
+use crate::Stepped;
+use chain::Chain;
+use pack::Pack;
+use trailer::Profile;
+ghost use mathlib.Core.Path.{_≡_};
+ghost use lib.ListN.{length};
+ghost use Rattle.pack.specs.Refusal.{laidNumber};
+ghost use Rattle.pack.specs.Lay.{laidAnswer, laidBytes};
+ghost use Rattle.chain.specs.Fresh.{lineSum};
+ghost use Rattle.calls.specs.Fit.{fitOf};
+ghost use Rattle.calls.specs.Words.{wordOf};
+ghost use Rattle.calls.specs.Packs.{packsOf, packOf};
+ghost use Rattle.calls.specs.Marks.{markedChain};
+ghost use Rattle.board.specs.Step.{stepFile};
+ghost use Rattle.board.specs.Call.{codeOf, toldOf, eventOf};
+
+// An event's outcome in numbers: the record, and the answer's number in the low byte, its value in the next.
+pub struct Told {
+    pub chain: Chain,
+    pub code: u32,
+}
+
+fn numbered(s: Stepped) -> Told
+    ensures { λ r. ⌜ r ≡ toldOf s ⌝ }
+{
+    let chain = s.chain;
+    let answer = s.answer;
+    Told {
+        chain,
+        code: event::number(answer) as u32 + event::value(answer) as u32 * 256,
+    }
+}
+
+// An event, by its three numbers, with its answer as a number.
+pub fn event(c: Chain, file: &mut [u8], kind: u32, a: u32, b: u32) -> Told
+    ensures { λ r. ⌜ (r ≡ eventOf kind a b c (now (file .entry))) × (now (file .exit) ≡ stepFile kind a b c (now (file .entry))) ⌝ }
+{
+    numbered(crate::step(c, file, kind, a, b))
+}
+
+fn chain_of(t: Told) -> Chain
+    ensures { λ r. ⌜ r ≡ t .chain ⌝ }
+{
+    t.chain
+}
+
+fn code_of(t: Told) -> u32
+    ensures { λ r. ⌜ r ≡ t .code ⌝ }
+{
+    t.code
+}
+
+// An event on the lent record and file.
+#[no_mangle]
+pub extern "C" fn esdi_event<'a, 'b>(
+    c: &'a mut Chain,
+    file: &'b mut [u8],
+    kind: u32,
+    a: u32,
+    b: u32,
+) -> u32
+    ensures { λ r. ⌜ (now (c .exit) ≡ eventOf kind a b (now (c .entry)) (now (file .entry)) .chain)
+        × ((r ≡ eventOf kind a b (now (c .entry)) (now (file .entry)) .code) × (now (file .exit) ≡ stepFile kind a b (now (c .entry)) (now (file .entry)))) ⌝ }
+{
+    let old = *c;
+    let t = event(old, file, kind, a, b);
+    *c = chain_of(t);
+    code_of(t)
+}
+
+// A chain fitted from a pack file into the lent record.
+#[no_mangle]
+pub extern "C" fn esdi_fit<'a, 'b>(c: &'a mut Chain, file: &'b [u8]) -> u64
+    ensures { λ r. ⌜ (now (c .exit) ≡ fitOf (now (c .entry)) (now (file .entry)) .chain) × (r ≡ fitOf (now (c .entry)) (now (file .entry)) .code) ⌝ }
+{
+    let old = *c;
+    let t = calls::fit::fit(old, file);
+    *c = calls::chain_of(t);
+    calls::code_of(t)
+}
+
+// A word to a slot of the lent record.
+#[no_mangle]
+pub extern "C" fn esdi_word(c: &mut Chain, slot: u32, word: u32) -> u64
+    ensures { λ r. ⌜ (now (c .exit) ≡ wordOf (now (c .entry)) slot word .chain) × (r ≡ wordOf (now (c .entry)) slot word .code) ⌝ }
+{
+    let old = *c;
+    let t = calls::words::word(old, slot, word);
+    *c = calls::chain_of(t);
+    calls::code_of(t)
+}
+
+// What the selected drive of the lent record shows.
+#[no_mangle]
+pub extern "C" fn esdi_lines(c: &mut Chain) -> u8
+    ensures { λ r. ⌜ (now (c .exit) ≡ now (c .entry)) × (r ≡ lineSum (now (c .entry))) ⌝ }
+{
+    let old = *c;
+    chain::fresh::line_sum(old)
+}
+
+// The lent record filled with marks.
+#[no_mangle]
+pub extern "C" fn esdi_marks(c: &mut Chain)
+    ensures { λ _. ⌜ now (c .exit) ≡ markedChain ⌝ }
+{
+    *c = calls::marks::marked();
+}
+
+// The status of a pack file.
+#[no_mangle]
+pub extern "C" fn esdi_packs(file: &[u8]) -> u64
+    ensures { λ r. ⌜ r ≡ packsOf (now (file .entry)) ⌝ }
+{
+    calls::packs::packs(file)
+}
+
+// The pack in a slot of a pack file.
+#[no_mangle]
+pub extern "C" fn esdi_pack_at(file: &[u8], slot: u32) -> Pack
+    ensures { λ r. ⌜ r ≡ packOf (now (file .entry)) slot ⌝ }
+{
+    calls::packs::pack_at(file, slot)
+}
+
+// A pack laid at the start of the lent part.
+#[no_mangle]
+pub extern "C" fn esdi_lay(part: &mut [u8], p: Profile) -> u32
+    ensures { λ r. ⌜ (r ≡ laidNumber (laidAnswer p (length (now (part .entry))))) × (now (part .exit) ≡ laidBytes p (now (part .entry))) ⌝ }
+{
+    calls::packs::laid(p, part)
+}

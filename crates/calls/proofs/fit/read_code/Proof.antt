@@ -1,0 +1,53 @@
+use borrow.Author.Needs.{needs}
+use borrow.Author.Tests.{lt-ltb, le-ltb, le-leb, lt-leb, eq-eqb, ne-eqb, not-true, not-false}
+use native.Mathlib.Omega.{arith}
+use Rattle.calls.proofs.fit.read_code.Statement.{statement}
+use Rattle.calls.proofs.fit.read_code.Tie as tie
+use Rattle.calls.proofs.fit.read_code.Reads as reads
+use Rattle.calls.proofs.fit.read_code.Lts as lts
+use Rattle.pack.proofs.number.Reads as number-reads
+
+enum-told : tie.Need-enum-told
+enum-told c = search needs
+
+mul-result : tie.Need-mul-result
+mul-result c = search needs
+
+enum-known-answer : tie.Need-enum-known-answer
+enum-known-answer c = search needs
+
+number-requires : tie.Need-number-requires
+number-requires c κs = search needs
+
+cast-result : tie.Need-cast-result
+cast-result c = search needs
+
+cast-result-2 : tie.Need-cast-result-2
+cast-result-2 c = search needs
+
+mul-result-2 : tie.Need-mul-result-2
+mul-result-2 c = search needs
+
+add-result : tie.Need-add-result
+add-result c = search needs
+
+returns : tie.Need-returns
+returns c = simp (c .enum-told .given .1)
+
+returns-2 : tie.Need-returns-2
+returns-2 c = simp (c .before .number .ensures, c .before .before .before .answer .given .1)
+
+pub read-code-spec : {M : Type 1} → statement M
+read-code-spec =
+    tie.close
+    (tie.spec
+    enum-told
+    mul-result
+    enum-known-answer
+    number-requires
+    cast-result
+    cast-result-2
+    mul-result-2
+    add-result
+    returns
+    returns-2)

@@ -1,0 +1,24 @@
+use borrow.Author.Needs.{needs}
+use borrow.Author.Tests.{lt-ltb, le-ltb, le-leb, lt-leb, eq-eqb, ne-eqb, not-true, not-false}
+use native.Mathlib.Omega.{arith}
+use Rattle.calls.proofs.packs.laid.Statement.{statement}
+use Rattle.calls.proofs.packs.laid.Tie as tie
+use Rattle.calls.proofs.packs.laid.Reads as reads
+use Rattle.calls.proofs.packs.laid.Lts as lts
+use Rattle.calls.proofs.packs.laid_number.Reads as laid-number-reads
+use Rattle.pack.proofs.lay.lay.Reads as lay-reads
+
+lay-requires : tie.Need-lay-requires
+lay-requires c κs = search needs
+
+laid-number-requires : tie.Need-laid-number-requires
+laid-number-requires c κs = search needs
+
+same-length : tie.Need-same-length
+same-length c = search needs
+
+returns : tie.Need-returns
+returns c = (simp (c .laid-number .ensures, c .before .before .before .lay .ensures .0), c .before .before .before .lay .ensures .1)
+
+pub laid-spec : {M : Type 1} → statement M
+laid-spec = tie.close (tie.spec lay-requires laid-number-requires same-length returns)

@@ -1,0 +1,36 @@
+use Rattle.calls.specs.Packs.{packOf}
+use borrow.Author.Needs.{needs}
+use borrow.Author.Tests.{lt-ltb, le-ltb, le-leb, lt-leb, eq-eqb, ne-eqb, not-true, not-false}
+use native.Mathlib.Omega.{arith}
+use Rattle.calls.proofs.packs.pack_at.Statement.{statement}
+use Rattle.calls.proofs.packs.pack_at.Tie as tie
+use Rattle.calls.proofs.packs.pack_at.Reads as reads
+use Rattle.calls.proofs.packs.pack_at.Lts as lts
+use Rattle.chain.proofs.record.pack_in.Reads as pack-in-reads
+use Rattle.pack.proofs.Pack.none.Reads as none-reads
+use Rattle.pack.proofs.read.read.Reads as read-reads
+
+none-requires : tie.Need-none-requires
+none-requires c κs = search needs
+
+returns : tie.Need-returns
+unfolding packOf
+returns c = simp (lt-leb _ _ (c .before .if1 .taken), lt-ltb _ _ (c .before .if1 .taken), c .none .ensures)
+
+read-requires : tie.Need-read-requires
+read-requires c κs = search needs
+
+cast-pack-in : tie.Need-cast-pack-in
+cast-pack-in c = search needs
+
+pack-in-requires : tie.Need-pack-in-requires
+pack-in-requires c κs = search needs
+
+returns-2 : tie.Need-returns-2
+unfolding packOf
+returns-2 c = simp (le-ltb _ _ (c .before .before .before .if1 .left), le-leb _ _ (c .before .before .before .if1 .left), c .before .before .read .ensures, c .pack-in .ensures)
+
+pub pack-at-spec : {M : Type 1} → statement M
+pack-at-spec =
+    tie.close
+    (tie.spec none-requires returns read-requires cast-pack-in pack-in-requires returns-2)

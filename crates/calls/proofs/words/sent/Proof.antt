@@ -1,0 +1,43 @@
+use Rattle.calls.specs.Words.{sentOf}
+use borrow.Author.Needs.{needs}
+use borrow.Author.Tests.{lt-ltb, le-ltb, le-leb, lt-leb, eq-eqb, ne-eqb, not-true, not-false}
+use native.Mathlib.Omega.{arith}
+use Rattle.calls.proofs.words.sent.Statement.{statement}
+use Rattle.calls.proofs.words.sent.Tie as tie
+use Rattle.calls.proofs.words.sent.Reads as reads
+use Rattle.calls.proofs.words.sent.Lts as lts
+use Rattle.calls.proofs.words.code.Reads as code-reads
+use Rattle.calls.proofs.words.fault_number.Reads as fault-number-reads
+use Rattle.calls.proofs.words.outcome.Reads as outcome-reads
+use Rattle.calls.proofs.words.state_in.Reads as state-in-reads
+use Rattle.word.proofs.plain.Reads as plain-reads
+
+plain-requires : tie.Need-plain-requires
+plain-requires c κs = search needs
+
+state-in-requires : tie.Need-state-in-requires
+state-in-requires c κs = search needs
+
+outcome-requires : tie.Need-outcome-requires
+outcome-requires c κs = search needs
+
+fault-number-requires : tie.Need-fault-number-requires
+fault-number-requires c κs = search needs
+
+code-requires : tie.Need-code-requires
+code-requires c κs = search needs
+
+returns : tie.Need-returns
+unfolding sentOf
+returns c = simp (c .before .before .before .before .before .plain .ensures, c .before .before .before .state-in .ensures, c .before .before .outcome .ensures, c .before .fault-number .ensures, c .code .ensures)
+
+pub sent-spec : {M : Type 1} → statement M
+sent-spec =
+    tie.close
+    (tie.spec
+    plain-requires
+    state-in-requires
+    outcome-requires
+    fault-number-requires
+    code-requires
+    returns)

@@ -1,0 +1,55 @@
+use Rattle.calls.specs.Words.{wordOf}
+use borrow.Author.Needs.{needs}
+use borrow.Author.Tests.{lt-ltb, le-ltb, le-leb, lt-leb, eq-eqb, ne-eqb, not-true, not-false}
+use native.Mathlib.Omega.{arith}
+use Rattle.calls.proofs.words.word.Statement.{statement}
+use Rattle.calls.proofs.words.word.Tie as tie
+use Rattle.calls.proofs.words.word.Reads as reads
+use Rattle.calls.proofs.words.word.Lts as lts
+use Rattle.calls.proofs.words.refused.Reads as refused-reads
+use Rattle.calls.proofs.words.word_at.Reads as word-at-reads
+
+refused-requires : tie.Need-refused-requires
+refused-requires c κs = search needs
+
+returns : tie.Need-returns
+unfolding wordOf
+returns c = simp (lt-leb _ _ (c .before .if1 .taken), lt-ltb _ _ (c .before .if1 .taken), c .refused .ensures)
+
+refused-requires-2 : tie.Need-refused-requires-2
+refused-requires-2 c κs = search needs
+
+returns-2 : tie.Need-returns-2
+unfolding wordOf
+returns-2 c = simp (le-ltb _ _ (c .before .before .if1 .left), le-leb _ _ (c .before .before .if1 .left), lt-leb _ _ (c .before .if2 .taken), lt-ltb _ _ (c .before .if2 .taken), c .refused2 .ensures)
+
+refused-requires-3 : tie.Need-refused-requires-3
+refused-requires-3 c κs = search needs
+
+returns-3 : tie.Need-returns-3
+unfolding wordOf
+returns-3 c = simp (le-ltb _ _ (c .before .before .before .if1 .left), le-leb _ _ (c .before .before .before .if1 .left), le-ltb _ _ (c .before .before .if2 .left), le-leb _ _ (c .before .before .if2 .left), lt-leb _ _ (c .before .if3 .taken), lt-ltb _ _ (c .before .if3 .taken), c .refused3 .ensures)
+
+cast-word-at : tie.Need-cast-word-at
+cast-word-at c = search needs
+
+word-at-requires : tie.Need-word-at-requires
+word-at-requires c κs = search needs
+
+returns-4 : tie.Need-returns-4
+unfolding wordOf
+returns-4 c = simp (le-ltb _ _ (c .before .before .before .if1 .left), le-leb _ _ (c .before .before .before .if1 .left), le-ltb _ _ (c .before .before .if2 .left), le-leb _ _ (c .before .before .if2 .left), le-ltb _ _ (c .before .if3 .left), le-leb _ _ (c .before .if3 .left), c .word-at .ensures)
+
+pub word-spec : {M : Type 1} → statement M
+word-spec =
+    tie.close
+    (tie.spec
+    refused-requires
+    returns
+    refused-requires-2
+    returns-2
+    refused-requires-3
+    returns-3
+    cast-word-at
+    word-at-requires
+    returns-4)

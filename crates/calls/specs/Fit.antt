@@ -1,0 +1,22 @@
+-- A chain fitted from a pack file, as a caller that lends a record has it.
+use Prim.Native.Nat.{ℕ, _+_, _*_}
+use mathlib.Core.List.{List}
+use Rattle.pack.specs.declared.read.Answer.{Answer}
+use Rattle.pack.specs.declared.read.Answer.the-variants.{Whole, Refused}
+use Rattle.pack.specs.Refusal.{numberOf}
+use Rattle.chain.specs.declared.Chain.{Chain}
+use Rattle.chain.specs.Fresh as fresh
+use Rattle.calls.specs.declared.Coded.{Coded}
+
+-- a refused file leaves the record as it was
+abbrev pub fittedOr : Answer → Chain → Chain → Chain
+fittedOr Whole found c = found
+fittedOr (Refused why place) found c = c
+
+-- "Refusals, with the pack's end as place (0 for 36)": the number in the low byte, the place in the high half; of a file that is taken, n in the second byte
+abbrev pub readCode : Answer → ℕ → ℕ
+readCode Whole n = n * 256
+readCode (Refused why place) n = numberOf why + place .0 * 4294967296
+
+unfoldable pub fitOf : Chain → List ℕ → Coded
+fitOf c file = record { chain = fittedOr (fresh.fitOf file .answer) (fresh.fitOf file .chain) c; code = readCode (fresh.fitOf file .answer) 0 }

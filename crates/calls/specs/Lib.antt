@@ -1,0 +1,4 @@
+pub mod Fit
+pub mod Words
+pub mod Packs
+pub mod Marks

@@ -1,0 +1,38 @@
+// A chain fitted from a pack file; a refused file leaves the record as it was.
+use crate::Coded;
+use chain::Chain;
+use chain::fresh;
+use pack::read::Answer;
+ghost use mathlib.Core.Path.{_≡_};
+ghost use Rattle.calls.specs.Fit.{fittedOr, readCode, fitOf};
+
+fn fitted_or(answer: Answer, found: Chain, c: Chain) -> Chain
+    ensures { λ r. ⌜ r ≡ fittedOr answer found c ⌝ }
+{
+    match answer {
+        Answer::Whole => found,
+        Answer::Refused(_, _) => c,
+    }
+}
+
+// A refusal's number, and its place in the high half; of a file that is taken, n in the second byte.
+pub fn read_code(answer: Answer, n: u8) -> u64
+    ensures { λ r. ⌜ r ≡ readCode answer n ⌝ }
+{
+    match answer {
+        Answer::Whole => n as u64 * 256,
+        Answer::Refused(why, place) => pack::number(why) as u64 + place.0 as u64 * 4294967296,
+    }
+}
+
+pub fn fit(c: Chain, file: &[u8]) -> Coded
+    ensures { λ r. ⌜ r ≡ fitOf c (now (file .entry)) ⌝ }
+{
+    let found = fresh::fit(file);
+    let answer = found.answer;
+    let chain = found.chain;
+    Coded {
+        chain: fitted_or(answer, chain, c),
+        code: read_code(answer, 0),
+    }
+}

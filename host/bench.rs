@@ -1,0 +1,138 @@
+//! Nanoseconds an event, by kind, through C and by the twin, in one run; and
+//! the event lines of a run of the bus, for the runners to be timed on.
+//!
+//!     bench [EVENTS [CASE]]     EVENTS a case; CASE alone, as for callgrind
+//!     bench lines N             N event lines on standard output
+
+#![cfg_attr(plain_main, no_main)]
+
+#[allow(dead_code)]
+mod esdi;
+#[allow(dead_code)]
+mod twin;
+
+use std::hint::black_box;
+use std::time::Instant;
+
+fn profile(slot: u8) -> twin::Profile {
+    let mut p = twin::smallest_drive(slot);
+    p.cylinders = 2;
+    p.heads = 2;
+    p
+}
+
+struct Pair {
+    name: &'static str,
+    setup: Vec<(u32, u32, u32)>,
+    turn: Vec<(u32, u32, u32)>,
+}
+
+fn word_bits(word17: u32) -> Vec<(u32, u32, u32)> {
+    let mut v = Vec::new();
+    for i in (0..17).rev() {
+        v.push((4, (word17 >> i) & 1, 0));
+        v.push((5, 1, 0));
+        v.push((5, 0, 0));
+    }
+    v
+}
+
+fn cleared(slot: u32) -> Vec<(u32, u32, u32)> {
+    let mut v = vec![(0, slot, 0)];
+    v.extend(word_bits(twin::with_parity(0x5000)));
+    v
+}
+
+fn cases() -> Vec<Pair> {
+    let sel = cleared(1);
+    let mut w = sel.clone();
+    w.push((2, 1, 0));
+    let mut r = sel.clone();
+    r.push((3, 1, 0));
+    vec![
+        Pair { name: "0 select 1,2", setup: sel.clone(), turn: vec![(0, 2, 0), (0, 1, 0)] },
+        Pair { name: "1 heads", setup: sel.clone(), turn: vec![(1, 1, 0), (1, 0, 0)] },
+        Pair { name: "2 write gate", setup: sel.clone(), turn: vec![(2, 1, 0), (2, 0, 0)] },
+        Pair { name: "3 read gate", setup: sel.clone(), turn: vec![(3, 1, 0), (3, 0, 0)] },
+        Pair { name: "4 data", setup: sel.clone(), turn: vec![(4, 1, 0), (4, 0, 0)] },
+        Pair { name: "5 word sent", setup: sel.clone(), turn: word_bits(twin::with_parity(0x5000)) },
+        Pair { name: "6 pass", setup: sel.clone(), turn: vec![(6, 10, 0), (6, 20, 0)] },
+        Pair { name: "7 cell written", setup: w, turn: vec![(7, 100, 1), (7, 200, 2)] },
+        Pair { name: "7 cell read", setup: r, turn: vec![(7, 100, 0), (7, 200, 0)] },
+        Pair { name: "8 condition", setup: sel, turn: vec![(8, 1, 1), (8, 1, 2)] },
+    ]
+}
+
+/// Nanoseconds an event, the least of some runs.
+fn least(runs: usize, n: usize, turn: &[(u32, u32, u32)], mut event: impl FnMut(u32, u32, u32)) -> f64 {
+    let mut best = f64::MAX;
+    for _ in 0..runs {
+        let start = Instant::now();
+        let mut done = 0;
+        while done < n {
+            for &(kind, a, b) in turn {
+                event(kind, a, b);
+            }
+            done += turn.len();
+        }
+        best = best.min(start.elapsed().as_nanos() as f64 / done as f64);
+    }
+    best
+}
+
+/// Event lines that select, send words, pass time and move cells.
+fn lines(n: usize) {
+    use std::io::Write;
+    let mut events = cleared(1);
+    events.extend(word_bits(twin::with_parity(0x2000)));
+    events.extend((0..17).flat_map(|_| [(5, 1, 0), (5, 0, 0)]));
+    events.extend([(6, 20, 0), (2, 1, 0), (7, 100, 65), (2, 0, 0), (3, 1, 0), (7, 100, 0), (3, 0, 0), (8, 1, 1), (0, 3, 0)]);
+    let mut out = std::io::BufWriter::new(std::io::stdout().lock());
+    for (kind, a, b) in events.iter().cycle().take(n) {
+        writeln!(out, "{} {} {}", kind, a, b).unwrap();
+    }
+}
+
+fn run() {
+    let arguments: Vec<String> = std::env::args().skip(1).collect();
+    if arguments.first().map_or(false, |s| s == "lines") {
+        return lines(arguments[1].parse().expect("a number"));
+    }
+    let n: usize = arguments.first().map(|s| s.parse().expect("a number")).unwrap_or(1_000_000);
+    let only: Option<usize> = arguments.get(1).map(|s| s.parse().unwrap());
+    for drives in [1u8, 7] {
+        println!("{} fitted: ns an event through C, by the twin, ratio", drives);
+        let profiles: Vec<_> = (1..=drives).map(profile).collect();
+        for (number, case) in cases().into_iter().enumerate() {
+            if only.map_or(false, |o| o != number) {
+                continue;
+            }
+            let mut file = twin::file_of_packs(&profiles);
+            let mut chain = twin::Chain::fresh(&file).unwrap();
+            for &(kind, a, b) in &case.setup {
+                twin::step(&mut chain, &mut file, kind, a, b);
+            }
+            let mut record = esdi::record_of(&chain);
+            let ours = least(5, n, &case.turn, |kind, a, b| {
+                black_box(esdi::event(&mut record, &mut file, kind, a, b));
+            });
+            let plain = least(5, n, &case.turn, |kind, a, b| {
+                black_box(twin::step(black_box(&mut chain), &mut file, kind, a, b));
+            });
+            println!("{:16} {:7.1} {:7.1} {:6.2}", case.name, ours, plain, ours / plain);
+        }
+    }
+}
+
+#[cfg(not(plain_main))]
+fn main() {
+    run();
+}
+
+/// Where the standard start of a Rust program isn't to be had, as under some emulators.
+#[cfg(plain_main)]
+#[no_mangle]
+pub extern "C" fn main() -> i32 {
+    run();
+    0
+}
