@@ -1,6 +1,6 @@
 -- A record lent by `&mut`, beside a lent file and three numbers, over a by-value function: a walk of the MIR that knows neither the
--- record's type nor the result's. The record is copied whole, the by-value function is called on the copy and the file, what it gives
--- back is stored whole where the record stood, and the code is returned. Assumes nothing.
+-- record's type nor the result's. The record is copied whole, a by-value function is called on the copy and the file, a second makes
+-- the new record of the copy and the result, which is stored whole where the record stood, and the code is returned. Assumes nothing.
 use mathlib.Core.Path.{_≡_, refl}
 use Prim.Native.Nat.{ℕ, _<_, _^_}
 use mathlib.Core.List.{[], _∷_, List}
@@ -16,7 +16,7 @@ use base.Fml.{Fml, GName, Lft, Share, ftrue, flft, fobs, fbor, feq}
 use prog.Wp.{Heap, Calls, Loops, WpFn}
 use ghost.Atoms.{Atoms}
 use contract.Monad.{fact}
-use types.Kit.{Given, ‵, raw, _⊛_, some, later, mean, _$_, _∵_, !, qed, by, move, keep, drop, ⋆, use1, use3, split, pick, fsplit, fsplit3, feqL, await}
+use types.Kit.{Given, ‵, raw, _⊛_, some, later, mean, _$_, _∵_, !, qed, by, move, keep, drop, ⋆, use1, use2, use3, split, pick, fsplit, fsplit3, feqL, await}
 use types.Run.{look, init, forget, stop, hop, fld, from, load, addr, of-opd, assigns, and-then, no-more, land, returns, enter, alloc1, alloc0, params1, pass1, pass0, free1, free0, look-raw, store-raw}
 use types.Part.{agg, whole, sub, look-in}
 use types.SemTy.{Body}
@@ -48,7 +48,7 @@ function τ σ θ #event #chain #code = record {
       (seq (assign (place 8 []) (addrOf (place 2 (field 0 ∷ deref (tyInt w8) ∷ []))))
       (seq (assign (place 9 []) (aggregate (copy (place 8 []) ∷ copy (place 2 (field 1 ∷ [])) ∷ [])))
       (seq (call #event (copy (place 6 []) ∷ copy (place 9 []) ∷ copy (place 3 []) ∷ copy (place 4 []) ∷ copy (place 5 []) ∷ []) (place 7 []))
-      (seq (call #chain (copy (place 7 []) ∷ []) (place 10 []))
+      (seq (call #chain (copy (place 6 []) ∷ copy (place 7 []) ∷ []) (place 10 []))
       (seq (assign (place 1 (deref τ ∷ [])) (rvOpd (copy (place 10 []))))
       (seq (call #code (copy (place 7 []) ∷ []) (place 0 [])) return))))));
 }
@@ -56,7 +56,7 @@ function τ σ θ #event #chain #code = record {
 -- the record's type D, of which a value lies in one machine value, and the result's type E
 module _ {M : Type 1} (𝓤 : URA M) (H : Heap 𝓤) (A : Atoms 𝓤) (W : Given 𝓤 H A)
     (τ σ θ : Ty) (D E : Type 0) (wr : Written) (rs : List (Written × List Ty)) (own : D → List Val → Fml) (ex : Kept → Exit D) (coded : Coded D)
-    (told : E → List Val → Fml) (exₑ : Kept → Exit E) (codedₑ : Coded E) (mach : D → Val) (chain : E → D) (code : E → ℕ) where
+    (told : E → List Val → Fml) (exₑ : Kept → Exit E) (codedₑ : Coded E) (mach : D → Val) (put : D → E → D) (code : E → ℕ) where
   abbrev pub R : RattleType
   R = record { Denot = D; mir = τ ∷ []; written = wr; reaches = rs; own = own; exit = ex; coded = coded }
 
@@ -64,7 +64,7 @@ module _ {M : Type 1} (𝓤 : URA M) (H : Heap 𝓤) (A : Atoms 𝓤) (W : Given
   S = record { Denot = E; mir = σ ∷ []; written = wr; reaches = rs; own = told; exit = exₑ; coded = codedₑ }
 
   module _ (tells : (x : D) (vs : List Val) → Is R x vs → vs ≡ mach x ∷ []) (typed : (x : D) (v : Val) → Is R x (v ∷ []) → T (hasTy τ v) × WT v)
-      (typedₑ : (t : E) (w : Val) → Is S t (w ∷ []) → T (hasTy σ w) × WT w) (makes : Makes 𝓤 H A S (Is S))
+      (typedₑ : (t : E) (w : Val) → Is S t (w ∷ []) → T (hasTy σ w) × WT w) (makes : Makes 𝓤 H A S (Is S)) (makesᵣ : Makes 𝓤 H A R (Is R))
       (κ κ′ : Lft) (q q′ : Share) (b o : ℕ) (γ : GName) (h : D) (b′ o′ : ℕ) (γ′ : GName) (ys : List ℕ) (n₁ n₂ n₃ : ℕ)
       (fits₁ : n₁ < 2 ^ 32) (fits₂ : n₂ < 2 ^ 32) (fits₃ : n₃ < 2 ^ 32) (Said : E → List ℕ → Type 0) where
     abbrev pub f : RefT (List ℕ)
@@ -77,11 +77,11 @@ module _ {M : Type 1} (𝓤 : URA M) (H : Heap 𝓤) (A : Atoms 𝓤) (W : Given
         (event-call : ent 𝓤 (⋆ 𝓤 H A ((‵ (flft κ′ q′) ⊛ ‵ ftrue) ∷ ‵ (own h (mach h ∷ [])) ∷ ‵ (MutSlice (named 1) κ′ u8 .own f (s ∷ [])) ∷ []))
         (C #event (mach h ∷ s ∷ vint w32 n₁ ∷ vint w32 n₂ ∷ vint w32 n₃ ∷ []) (λ w. mean 𝓤 H A (later (some (λ (t : E). ((‵ (flft κ′ q′) ⊛ ‵ ftrue) ⊛ ‵ (told t (w ∷ []))) ⊛ raw (Ens t)))))))
         (event-is : (t : E) → ent 𝓤 (Ens t) (mean 𝓤 H A (some (λ (zs : List ℕ). (‵ (finally u8 γ′ zs) ⊛ ‵ (feq ℕ (length zs) (length ys))) ⊛ raw (fact 𝓤 (Said t zs))))))
-        (chain-call : (t : E) (w : Val) → ent 𝓤 (mean 𝓤 H A (‵ (told t (w ∷ [])))) (C #chain (w ∷ []) (λ v. mean 𝓤 H A (later (some (λ (r : D). (‵ ftrue ⊛ ‵ (own r (v ∷ []))) ⊛ raw (Ens₁ t r)))))))
-        (chain-is : (t : E) (r : D) → ent 𝓤 (Ens₁ t r) (fact 𝓤 (r ≡ chain t)))
+        (chain-call : (t : E) (w : Val) → ent 𝓤 (⋆ 𝓤 H A (‵ (own h (mach h ∷ [])) ∷ ‵ (told t (w ∷ [])) ∷ [])) (C #chain (mach h ∷ w ∷ []) (λ v. mean 𝓤 H A (later (some (λ (r : D). (‵ ftrue ⊛ ‵ (own r (v ∷ []))) ⊛ raw (Ens₁ t r)))))))
+        (chain-is : (t : E) (r : D) → ent 𝓤 (Ens₁ t r) (fact 𝓤 (r ≡ put h t)))
         (code-call : (t : E) (w : Val) → ent 𝓤 (mean 𝓤 H A (‵ (told t (w ∷ [])))) (C #code (w ∷ []) (λ u. mean 𝓤 H A (later (some (λ (a : ℕ). (‵ ftrue ⊛ ‵ (u32 .own a (u ∷ []))) ⊛ raw (Ens₂ t a)))))))
         (code-is : (t : E) (a : ℕ) → ent 𝓤 (Ens₂ t a) (fact 𝓤 (a ≡ code t)))
-        (exits : (t : E) (r : D) (a : ℕ) (v : Val) (zs : List ℕ) → r ≡ chain t → a ≡ code t → Said t zs → length zs ≡ length ys → Is u32 a (v ∷ [])
+        (exits : (t : E) (r : D) (a : ℕ) (v : Val) (zs : List ℕ) → r ≡ put h t → a ≡ code t → Said t zs → length zs ≡ length ys → Is u32 a (v ∷ [])
         → ent 𝓤 (⋆ 𝓤 H A (‵ (fobs γ (coded .code r)) ∷ ‵ (fbor κ (Body (mem R) b o γ)) ∷ ‵ (flft κ q) ∷ (‵ (flft κ′ q′) ⊛ ‵ ftrue) ∷ ‵ (finally u8 γ′ zs) ∷ [])) (Post v)) where
       pub walk : Room u8 (length ys)
           → ent 𝓤 (⋆ 𝓤 H A ((‵ (flft κ q) ⊛ ‵ (flft κ′ q′) ⊛ ‵ ftrue) ∷ ‵ (owns (MutRef (named 0) κ R ∷ MutSlice (named 1) κ′ u8 ∷ u32 ∷ u32 ∷ u32 ∷ []) (record { ptr = (b, o); name = γ; now = h }, (f, (n₁, (n₂, (n₃, tt))))) (vptr b o ∷ [], (s ∷ [], (vint w32 n₁ ∷ [], (vint w32 n₂ ∷ [], (vint w32 n₃ ∷ [], tt)))))) ∷ []))
@@ -108,9 +108,11 @@ module _ {M : Type 1} (𝓤 : URA M) (H : Heap 𝓤) (A : Atoms 𝓤) (W : Given
           -- [the last list; the token and what the result owns; the numbers'; the cell; the open borrow; obs; auth; _10; …; _0; …]
           move ! (1 ∷ []) $ split ! $ move ! (1 ∷ []) $ peeks ! S (Is S) (shows 𝓤 H A S) t (w ∷ []) (λ ist.
           land ! (from ! (stop !)) (init ! 14 refl (typedₑ t w ist)) $
-          calls-from ! fm (‵ (told t (w ∷ []))) (w ∷ []) _ (chain-call t w) (and-then ! (load ! (from ! (stop !)) (look ! 14 refl)) (no-more !)) (λ v.
+          owned ! R (Is R) makesᵣ h (mach h ∷ []) is $ use2 W (raw (⋆ 𝓤 H A (‵ (own h (mach h ∷ [])) ∷ ‵ (told t (w ∷ [])) ∷ []))) (id⊢ 𝓤 _) $
+          calls-from ! fm (raw (⋆ 𝓤 H A (‵ (own h (mach h ∷ [])) ∷ ‵ (told t (w ∷ [])) ∷ []))) (mach h ∷ w ∷ []) _ (chain-call t w)
+          (and-then ! (load ! (from ! (stop !)) (look ! 16 refl)) (and-then ! (load ! (from ! (stop !)) (look ! 14 refl)) (no-more !))) (λ v.
           use1 W (later (some (λ (r : D). (‵ ftrue ⊛ ‵ (own r (v ∷ []))) ⊛ raw (Ens₁ t r)))) (id⊢ 𝓤 _) $ await ! tt $ pick ! (λ r.
-          split ! $ move ! (1 ∷ []) $ use1 W (raw (fact 𝓤 (r ≡ chain t))) (chain-is t r) $ heard ! (r ≡ chain t) (λ e. split ! $ drop ! $
+          split ! $ move ! (1 ∷ []) $ use1 W (raw (fact 𝓤 (r ≡ put h t))) (chain-is t r) $ heard ! (r ≡ put h t) (λ e. split ! $ drop ! $
           peeks ! R (Is R) (shows 𝓤 H A R) r (v ∷ []) (λ is′.
           land ! (from ! (stop !)) (init ! 8 refl (typed r v is′)) $
           assigns ! (of-opd ! (load ! (from ! (stop !)) (look ! 8 refl))) (from ! (hop ! (look ! 26 refl) (stop !))) (store-raw ! 4 refl (typed r v is′)) $

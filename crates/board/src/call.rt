@@ -1,7 +1,9 @@
 // What C calls: the record and the file lent, the answer as a number.
-use crate::Stepped;
-use chain::Chain;
+use decision::Decision;
+use decision::Deed;
 use pack::Pack;
+use record::Chain;
+use record::apply;
 use trailer::Profile;
 ghost use mathlib.Core.Path.{_≡_};
 ghost use lib.ListN.{length};
@@ -12,37 +14,41 @@ ghost use Rattle.calls.specs.Fit.{fitOf};
 ghost use Rattle.calls.specs.Words.{wordOf};
 ghost use Rattle.calls.specs.Packs.{packsOf, packOf};
 ghost use Rattle.calls.specs.Marks.{markedChain};
-ghost use Rattle.board.specs.Step.{stepFile};
-ghost use Rattle.board.specs.Call.{codeOf, toldOf, eventOf};
+ghost use Rattle.decision.specs.Deeds.{Fits};
+ghost use Rattle.record.specs.Apply.{applied};
+ghost use Rattle.judge.specs.Judge.{judgedOf};
+ghost use Rattle.board.specs.Step.{stepOf, stepFile};
+ghost use Rattle.board.specs.Call.{codeOf, toldOf, Coded};
 
-// An event's outcome in numbers: the record, and the answer's number in the low byte, its value in the next.
+// What an event comes to: the decision, and the answer's number in the low byte, its value in the next.
 pub struct Told {
-    pub chain: Chain,
+    pub decision: Decision,
     pub code: u32,
 }
 
-fn numbered(s: Stepped) -> Told
-    ensures { λ r. ⌜ r ≡ toldOf s ⌝ }
+fn said(file: &mut [u8], deed: Deed) -> u32
+    requires { ⌜ Fits (length (now file)) deed ⌝ }
+    ensures { λ r. ⌜ Coded deed (now (file .entry)) r (now (file .exit)) ⌝ }
 {
-    let chain = s.chain;
-    let answer = s.answer;
-    Told {
-        chain,
-        code: event::number(answer) as u32 + event::value(answer) as u32 * 256,
-    }
+    let answer = crate::obey(file, deed);
+    event::number(answer) as u32 + event::value(answer) as u32 * 256
 }
 
-// An event, by its three numbers, with its answer as a number.
-pub fn event(c: Chain, file: &mut [u8], kind: u32, a: u32, b: u32) -> Told
-    ensures { λ r. ⌜ (r ≡ eventOf kind a b c (now (file .entry))) × (now (file .exit) ≡ stepFile kind a b c (now (file .entry))) ⌝ }
+// An event, by its three numbers, judged and done on the file; the record is still to change.
+fn judged(c: Chain, file: &mut [u8], kind: u32, a: u32, b: u32) -> Told
+    ensures { λ r. ⌜ (r ≡ toldOf (now (file .entry)) (judgedOf c (length (now (file .entry))) kind a b)) × (now (file .exit) ≡ stepFile kind a b c (now (file .entry))) ⌝ }
 {
-    numbered(crate::step(c, file, kind, a, b))
+    let decision = judge::judge(c, file.len(), kind, a, b);
+    let deed = decision.deed;
+    let code = said(file, deed);
+    Told { decision, code }
 }
 
-fn chain_of(t: Told) -> Chain
-    ensures { λ r. ⌜ r ≡ t .chain ⌝ }
+fn changed(c: Chain, t: Told) -> Chain
+    ensures { λ r. ⌜ r ≡ applied c (t .decision) ⌝ }
 {
-    t.chain
+    let d = t.decision;
+    apply::apply(c, d)
 }
 
 fn code_of(t: Told) -> u32
@@ -51,7 +57,7 @@ fn code_of(t: Told) -> u32
     t.code
 }
 
-// An event on the lent record and file.
+// An event on the lent record and file. A decision is small: the record is copied in and stored back once.
 #[no_mangle]
 pub extern "C" fn esdi_event<'a, 'b>(
     c: &'a mut Chain,
@@ -60,12 +66,12 @@ pub extern "C" fn esdi_event<'a, 'b>(
     a: u32,
     b: u32,
 ) -> u32
-    ensures { λ r. ⌜ (now (c .exit) ≡ eventOf kind a b (now (c .entry)) (now (file .entry)) .chain)
-        × ((r ≡ eventOf kind a b (now (c .entry)) (now (file .entry)) .code) × (now (file .exit) ≡ stepFile kind a b (now (c .entry)) (now (file .entry)))) ⌝ }
+    ensures { λ r. ⌜ (now (c .exit) ≡ stepOf kind a b (now (c .entry)) (now (file .entry)) .chain)
+        × ((r ≡ codeOf (stepOf kind a b (now (c .entry)) (now (file .entry)) .answer)) × (now (file .exit) ≡ stepFile kind a b (now (c .entry)) (now (file .entry)))) ⌝ }
 {
     let old = *c;
-    let t = event(old, file, kind, a, b);
-    *c = chain_of(t);
+    let t = judged(old, file, kind, a, b);
+    *c = changed(old, t);
     code_of(t)
 }
 

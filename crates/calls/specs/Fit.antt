@@ -4,7 +4,7 @@ use mathlib.Core.List.{List}
 use Rattle.pack.specs.declared.read.Answer.{Answer}
 use Rattle.pack.specs.declared.read.Answer.the-variants.{Whole, Refused}
 use Rattle.pack.specs.Refusal.{numberOf}
-use Rattle.chain.specs.declared.Chain.{Chain}
+use Rattle.record.specs.declared.Chain.{Chain}
 use Rattle.chain.specs.Fresh as fresh
 use Rattle.calls.specs.declared.Coded.{Coded}
 

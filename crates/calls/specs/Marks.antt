@@ -6,7 +6,7 @@ use Rattle.pack.specs.declared.Pack.{Pack}
 use Rattle.drive.specs.declared.Body.{Body}
 use Rattle.drive.specs.declared.State.{State}
 use Rattle.unit.specs.declared.Lines.{Lines}
-use Rattle.chain.specs.declared.Chain.{Chain}
+use Rattle.record.specs.declared.Chain.{Chain}
 
 abbrev pub markedProfile : Profile
 markedProfile = record {

@@ -8,7 +8,8 @@ use Rattle.counts.specs.Choice.{if_then_else_}
 use Rattle.pack.specs.declared.Pack.{Pack}
 use Rattle.pack.specs.Packs.{noPack}
 use Rattle.pack.specs.Read.{readAll}
-use Rattle.chain.specs.Record.{slotPack, fittedB}
+use Rattle.record.specs.Record.{slotPack}
+use Rattle.decision.specs.Decision.{fittedB}
 use Rattle.calls.specs.Fit.{readCode}
 
 -- 1 for a pack that is there

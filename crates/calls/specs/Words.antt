@@ -11,12 +11,13 @@ use Rattle.word.specs.declared.Told.{Told}
 use Rattle.word.specs.declared.Told.the-variants as telling
 use Rattle.word.specs.Rules.{refusesB, carryOf, plainOf}
 use Rattle.event.specs.declared.Answer.the-variants.{Taken}
-use Rattle.chain.specs.declared.Chain.{Chain}
-use Rattle.chain.specs.declared.Change.the-variants as change
-use Rattle.chain.specs.declared.Deed.the-variants as deed
-use Rattle.chain.specs.Record.{slotPack, slotState, fittedB}
-use Rattle.chain.specs.Apply.{applied}
-use Rattle.chain.specs.Sound.{soundB}
+use Rattle.record.specs.declared.Chain.{Chain}
+use Rattle.decision.specs.declared.Change.the-variants as change
+use Rattle.decision.specs.declared.Deed.the-variants as deed
+use Rattle.record.specs.Record.{slotPack, slotState}
+use Rattle.decision.specs.Decision.{fittedB}
+use Rattle.record.specs.Apply.{applied}
+use Rattle.soundness.specs.Sound.{soundB}
 use Rattle.calls.specs.declared.Coded.{Coded}
 
 -- "Refusals 19 to 25 change nothing"

@@ -1,8 +1,8 @@
 // A chain fitted from a pack file; a refused file leaves the record as it was.
 use crate::Coded;
-use chain::Chain;
 use chain::fresh;
 use pack::read::Answer;
+use record::Chain;
 ghost use mathlib.Core.Path.{_≡_};
 ghost use Rattle.calls.specs.Fit.{fittedOr, readCode, fitOf};
 

@@ -4,7 +4,7 @@ pub mod marks;
 pub mod packs;
 pub mod words;
 
-use chain::Chain;
+use record::Chain;
 ghost use mathlib.Core.Path.{_≡_};
 
 // The record, and a code: an answer's number in the low byte, what the call says of it in the next, a place or a word in the high half.

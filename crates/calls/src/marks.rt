@@ -1,5 +1,4 @@
 // A record whose every field holds a mark of its own, by which a program in C sees that its mirror of the record is right.
-use chain::Chain;
 use counts::Cylinder;
 use counts::Head;
 use counts::Micros;
@@ -12,6 +11,7 @@ use drive::State;
 use drive::Timers;
 use handshake::Transfer;
 use pack::Pack;
+use record::Chain;
 use trailer::Profile;
 use trailer::Shape;
 use trailer::Times;

@@ -1,6 +1,5 @@
 // The status of a pack file, and a pack laid, in numbers.
 use crate::fit;
-use chain::record;
 use pack::Pack;
 use pack::lay;
 use pack::lay::Laid;
@@ -48,7 +47,7 @@ pub fn pack_at(file: &[u8], slot: u32) -> Pack
     }
     let found = read::read(file);
     let slots = found.slots;
-    record::pack_in(slots, slot as u8)
+    record::slots::pack_in(slots, slot as u8)
 }
 
 fn laid_number(laid: Laid) -> u32

@@ -1,16 +1,15 @@
 // The plain word rules on a slot of the record.
 use crate::Coded;
-use chain::Chain;
-use chain::Change;
-use chain::Decision;
-use chain::Deed;
-use chain::apply;
-use chain::record;
-use chain::sound;
+use decision::Change;
+use decision::Decision;
+use decision::Deed;
 use drive::Outcome;
 use drive::State;
 use event::Answer;
 use pack::Pack;
+use record::Chain;
+use record::apply;
+use record::slots;
 use trailer::Profile;
 use word::Told;
 ghost use mathlib.Core.Path.{_≡_};
@@ -86,17 +85,17 @@ fn sent(c: Chain, p: Profile, s: State, slot: u8, n: u32) -> Coded
 fn word_at(c: Chain, slot: u8, n: u32) -> Coded
     ensures { λ r. ⌜ r ≡ wordAt c slot n ⌝ }
 {
-    if !sound::is_sound(c) {
+    if !soundness::is_sound(c) {
         return refused(c, 22);
     }
     let packs = c.packs;
     let states = c.states;
-    let p = record::pack_in(packs, slot);
+    let p = slots::pack_in(packs, slot);
     let profile = p.profile;
-    if !record::fitted(p) {
+    if !decision::fitted(p) {
         return refused(c, 24);
     }
-    let s = record::state_in(states, slot);
+    let s = slots::state_in(states, slot);
     sent(c, profile, s, slot, n)
 }
 

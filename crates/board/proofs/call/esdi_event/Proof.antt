@@ -34,26 +34,29 @@ use denote.Triple.Table.{entered, cited}
 use denote.Triple.Walked.{says, Stays, stay-ref, gave-slice, stay-none, walkOf, AllGo, goes-none, goes-ref, goes-gave-slice, Walks, ends-at, walked, walk-meets}
 use denote.Exit.{yes}
 use denote.Triple.Clauses.{ensured, lasts}
-use Rattle.chain.specs.declared.Chain.{Chain}
+use Rattle.record.specs.declared.Chain.{Chain}
 use Rattle.board.specs.declared.call.Told.{Told}
-use Rattle.board.specs.Step.{stepFile}
-use Rattle.board.specs.Call.{eventOf}
-use Rattle.chain.proofs.Chain as T
-use Rattle.chain.proofs.Chain.Laws as T′
+use Rattle.decision.specs.declared.Decision.{Decision}
+use Rattle.record.specs.Apply.{applied}
+use Rattle.judge.specs.Judge.{judgedOf}
+use Rattle.board.specs.Step.{stepOf, stepFile}
+use Rattle.board.specs.Call.{toldOf}
+use Rattle.record.proofs.Chain as T
+use Rattle.record.proofs.Chain.Laws as T′
 use Rattle.board.proofs.call.Told as S
 use Rattle.board.proofs.call.Told.Laws as S′
-use Rattle.board.proofs.call.chain_of as chain-of
-use Rattle.board.proofs.call.chain_of.Symbol as chain-of-def
-use Rattle.board.proofs.call.chain_of.Symbol.{name as #chain}
-use Rattle.board.proofs.call.chain_of.Met as chain-of-thm
+use Rattle.board.proofs.call.changed as chain-of
+use Rattle.board.proofs.call.changed.Symbol as chain-of-def
+use Rattle.board.proofs.call.changed.Symbol.{name as #chain}
+use Rattle.board.proofs.call.changed.Met as chain-of-thm
 use Rattle.board.proofs.call.code_of as code-of
 use Rattle.board.proofs.call.code_of.Symbol as code-of-def
 use Rattle.board.proofs.call.code_of.Symbol.{name as #code}
 use Rattle.board.proofs.call.code_of.Met as code-of-thm
-use Rattle.board.proofs.call.event as by-value
-use Rattle.board.proofs.call.event.Symbol as by-value-def
-use Rattle.board.proofs.call.event.Symbol.{name as #event}
-use Rattle.board.proofs.call.event.Met as by-value-thm
+use Rattle.board.proofs.call.judged as by-value
+use Rattle.board.proofs.call.judged.Symbol as by-value-def
+use Rattle.board.proofs.call.judged.Symbol.{name as #event}
+use Rattle.board.proofs.call.judged.Met as by-value-thm
 use Rattle.board.proofs.call.esdi_event.Key.{name as #lent}
 use Rattle.board.proofs.call.esdi_event as lent
 use Rattle.board.proofs.call.esdi_event.Statement as stated
@@ -80,14 +83,14 @@ module _ {M : Type 1} (𝓤 : URA M) (H : Heap 𝓤) (A : Atoms 𝓤) (at-mem : 
   abbrev Event : Contract 𝓤
   Event = tripleOf 𝓤 H A by-value.signature (by-value.spec 𝓤 H A at-mem run)
 
-  abbrev Ens₁ : Told → Chain → SProp 𝓤
-  Ens₁ t r = ensured 𝓤 H A chain-of.ended (chain-of.clauses 𝓤 H A at-mem run) tt (t, tt) tt r
+  abbrev Ens₁ : Chain → Told → Chain → SProp 𝓤
+  Ens₁ h t r = ensured 𝓤 H A chain-of.ended (chain-of.clauses 𝓤 H A at-mem run) tt (h, (t, tt)) tt r
 
   abbrev Ens₂ : Told → ℕ → SProp 𝓤
   Ens₂ t a = ensured 𝓤 H A code-of.ended (code-of.clauses 𝓤 H A at-mem run) tt (t, tt) tt a
 
-  chain-is : (t : Told) (r : Chain) → ent 𝓤 (Ens₁ t r) (fact 𝓤 (r ≡ t .chain))
-  chain-is t r = exE 𝓤 _ (λ ws. snd∗ 𝓤 (sem 𝓤 H A (lasts chain-of.ended tt (t, tt) ws)) (fact 𝓤 (r ≡ t .chain)))
+  chain-is : (h : Chain) (t : Told) (r : Chain) → ent 𝓤 (Ens₁ h t r) (fact 𝓤 (r ≡ applied h (t .decision)))
+  chain-is h t r = exE 𝓤 _ (λ ws. snd∗ 𝓤 (sem 𝓤 H A (lasts chain-of.ended tt (h, (t, tt)) ws)) (fact 𝓤 (r ≡ applied h (t .decision))))
 
   code-is : (t : Told) (a : ℕ) → ent 𝓤 (Ens₂ t a) (fact 𝓤 (a ≡ t .code))
   code-is t a = exE 𝓤 _ (λ ws. snd∗ 𝓤 (sem 𝓤 H A (lasts code-of.ended tt (t, tt) ws)) (fact 𝓤 (a ≡ t .code)))
@@ -109,17 +112,17 @@ module _ {M : Type 1} (𝓤 : URA M) (H : Heap 𝓤) (A : Atoms 𝓤) (W : Given
   Post = walkOf 𝓤 H A lent.ended stayed (lent.clauses 𝓤 H A at-mem run) .post (((κ, (κ′, tt)), (q, (q′, tt)), tt, x, at), tt)
 
   abbrev Said : Told → List ℕ → Type 0
-  Said r zs = (r ≡ eventOf n₁ n₂ n₃ h ys) × (zs ≡ stepFile n₁ n₂ n₃ h ys)
+  Said r zs = (r ≡ toldOf ys (judgedOf h (length ys) n₁ n₂ n₃)) × (zs ≡ stepFile n₁ n₂ n₃ h ys)
 
   abbrev Ens : Told → SProp 𝓤
   Ens t = ensured 𝓤 H A by-value.ended (by-value.clauses 𝓤 H A at-mem run) (κ′, tt) (h, (f, (n₁, (n₂, (n₃, tt))))) tt t
 
   abbrev to-chain : Told → Val → ChainOf 𝓤 H A at-mem run .Ghost
-  to-chain r w = ((tt, tt, tt, (r, tt), (w ∷ [], tt)), tt)
+  to-chain r w = ((tt, tt, tt, (h, (r, tt)), (mach h ∷ [], (w ∷ [], tt))), tt)
 
-  goes-chain : (r : Told) (w : Val) → ent 𝓤 (sem 𝓤 H A (S.the-row .own r (w ∷ []))) (ChainOf 𝓤 H A at-mem run .pre (to-chain r w))
-  goes-chain r w = qed W (‵ (S.the-row .own r (w ∷ [])) ∷ []) ∵
-      nothing ! $ move ! (1 ∷ 0 ∷ []) $ join ! $ nothing ! $ join ! $ frame ! $ done !
+  goes-chain : (r : Told) (w : Val) → ent 𝓤 (⋆ 𝓤 H A (‵ (T.the-row .own h (mach h ∷ [])) ∷ ‵ (S.the-row .own r (w ∷ [])) ∷ [])) (ChainOf 𝓤 H A at-mem run .pre (to-chain r w))
+  goes-chain r w = qed W (‵ (T.the-row .own h (mach h ∷ [])) ∷ ‵ (S.the-row .own r (w ∷ [])) ∷ []) ∵
+      nothing ! $ move ! (2 ∷ 0 ∷ []) $ fjoin ! $ move ! (1 ∷ 0 ∷ []) $ fjoin ! $ nothing ! $ join ! $ frame ! $ done !
 
   abbrev to-code : Told → Val → CodeOf 𝓤 H A at-mem run .Ghost
   to-code r w = ((tt, tt, tt, (r, tt), (w ∷ [], tt)), tt)
@@ -145,12 +148,13 @@ module _ {M : Type 1} (𝓤 : URA M) (H : Heap 𝓤) (A : Atoms 𝓤) (W : Given
   event-is t = exE 𝓤 _ (λ zs. qed W ((‵ (lasts by-value.ended (κ′, tt) (h, (f, (n₁, (n₂, (n₃, tt))))) zs) ⊛ raw (fact 𝓤 (Said t (zs .1 .0)))) ∷ []) ∵
       split ! $ fsplit ! $ drop ! $ fsplit ! $ fsplit ! $ show ! (λ (ws : List ℕ). mean 𝓤 H A (had t ws)) (zs .1 .0) $ join ! $ frame ! $ drop ! $ done !)
 
-  exits : (t : Told) (r : Chain) (a : ℕ) (v : Val) (zs : List ℕ) → r ≡ t .chain → a ≡ t .code → Said t zs → length zs ≡ length ys → Is u32 a (v ∷ [])
+  exits : (t : Told) (r : Chain) (a : ℕ) (v : Val) (zs : List ℕ) → r ≡ applied h (t .decision) → a ≡ t .code → Said t zs → length zs ≡ length ys → Is u32 a (v ∷ [])
       → ent 𝓤 (⋆ 𝓤 H A (‵ (fobs γ (T.the-row .coded .code r)) ∷ ‵ (fbor κ (Body (mem (T.the-row)) b o γ)) ∷ ‵ (flft κ q) ∷ (‵ (flft κ′ q′) ⊛ ‵ ftrue) ∷ ‵ (finally u8 γ′ zs) ∷ [])) (Post v)
+  unfolding stepOf
   exits t r a v zs e e′ said l is =
       qed W (‵ (fobs γ (T.the-row .coded .code r)) ∷ ‵ (fbor κ (Body (mem (T.the-row)) b o γ)) ∷ ‵ (flft κ q) ∷ (‵ (flft κ′ q′) ⊛ ‵ ftrue) ∷ ‵ (finally u8 γ′ zs) ∷ []) ∵
       suffices ! _ (ends-at 𝓤 H A lent.ended stayed (lent.clauses 𝓤 H A at-mem run) W (((κ, (κ′, tt)), (q, (q′, tt)), tt, x, at), tt) v a (r, (zs, (tt, (tt, (tt, tt))))) (tt, (l, (tt, (tt, (tt, tt)))))) $
-      says ! (e ∙ ap (λ (p : Told). p .chain) (said .0), (e′ ∙ ap (λ (p : Told). p .code) (said .0), said .1)) $
+      says ! (e ∙ ap (λ (p : Told). applied h (p .decision)) (said .0), (e′ ∙ ap (λ (p : Told). p .code) (said .0), said .1)) $
       move ! (2 ∷ 3 ∷ []) $ join ! $ frame ! $ feqI ! (List Val) (vptr b o ∷ []) (vptr b o ∷ []) refl $ fjoin3 ! $
       nothing ! $ owned ! u32 (Is u32) (uint-makes 𝓤 H A W w32) n₃ _ (refl, fits₃) $ fjoin ! $ owned ! u32 (Is u32) (uint-makes 𝓤 H A W w32) n₂ _ (refl, fits₂) $ fjoin ! $ owned ! u32 (Is u32) (uint-makes 𝓤 H A W w32) n₁ _ (refl, fits₁) $ fjoin ! $
       move ! (2 ∷ 0 ∷ []) $ fjoin ! $ move ! (1 ∷ 0 ∷ []) $ fjoin ! $
@@ -160,11 +164,11 @@ module _ {M : Type 1} (𝓤 : URA M) (H : Heap 𝓤) (A : Atoms 𝓤) (W : Given
     walk : Room u8 (length ys) → ent 𝓤 (onEntry 𝓤 H A lent.signature (κ, (κ′, tt)) (q, (q′, tt)) x at) (WpFn 𝓤 H C Λ code.function (vptr b o ∷ s ∷ vint w32 n₁ ∷ vint w32 n₂ ∷ vint w32 n₃ ∷ []) Post)
     walk =
         lend.walk 𝓤 H A W (lone (T.the-row .mir)) (lone (S.the-row .mir)) (T.the-row .written .ty) Chain Told (T.the-row .written) (T.the-row .reaches) (T.the-row .own) (T.the-row .exit) (T.the-row .coded)
-        (S.the-row .own) (S.the-row .exit) (S.the-row .coded) mach (λ t. t .chain) (λ t. t .code) (LL.tells T.the-type T′.the-laws)
-        (λ x′ v is. LL.lawful T.the-type T′.the-laws 𝓤 H A W .typed x′ (v ∷ []) is .0) (λ t w is. LL.lawful S.the-type S′.the-laws 𝓤 H A W .typed t (w ∷ []) is .0) (LL.makes S.the-type S′.the-plain 𝓤 H A)
-        κ κ′ q q′ b o γ h b′ o′ γ′ ys n₁ n₂ n₃ fits₁ fits₂ fits₃ Said C Λ fm #event #chain #code Post Ens (Ens₁ 𝓤 H A at-mem run) (Ens₂ 𝓤 H A at-mem run)
+        (S.the-row .own) (S.the-row .exit) (S.the-row .coded) mach (λ x′ t. applied x′ (t .decision)) (λ t. t .code) (LL.tells T.the-type T′.the-laws)
+        (λ x′ v is. LL.lawful T.the-type T′.the-laws 𝓤 H A W .typed x′ (v ∷ []) is .0) (λ t w is. LL.lawful S.the-type S′.the-laws 𝓤 H A W .typed t (w ∷ []) is .0) (LL.makes S.the-type S′.the-plain 𝓤 H A) (LL.makes T.the-type T′.the-plain 𝓤 H A)
+        κ κ′ q q′ b o γ h b′ o′ γ′ ys n₁ n₂ n₃ fits₁ fits₂ fits₃ Said C Λ fm #event #chain #code Post Ens (Ens₁ 𝓤 H A at-mem run h) (Ens₂ 𝓤 H A at-mem run)
         (via 𝓤 (Event 𝓤 H A at-mem run .pre to-event) goes-event (known-event to-event)) event-is
-        (λ t w. via 𝓤 (ChainOf 𝓤 H A at-mem run .pre (to-chain t w)) (goes-chain t w) (known (to-chain t w))) (chain-is 𝓤 H A at-mem run)
+        (λ t w. via 𝓤 (ChainOf 𝓤 H A at-mem run .pre (to-chain t w)) (goes-chain t w) (known (to-chain t w))) (chain-is 𝓤 H A at-mem run h)
         (λ t w. via 𝓤 (CodeOf 𝓤 H A at-mem run .pre (to-code t w)) (goes-code t w) (known-code (to-code t w))) (code-is 𝓤 H A at-mem run) exits
 
 module _ {M : Type 1} (𝓤 : URA M) (H : Heap 𝓤) (A : Atoms 𝓤) (W : Given 𝓤 H A) (at-mem : Memory → SProp 𝓤) (run : Routine → Fun 𝓤) where
@@ -186,6 +190,6 @@ esdi-event-spec 𝓤 H 𝓜 𝓖 𝓡 =
     entered 𝓤 H (tripleOf 𝓤 H (𝓖 .A) lent.signature (lent.spec 𝓤 H (𝓖 .A) (𝓜 .mem) (𝓡 .run)))
     (tables 𝓤 H 𝓜 𝓡 code.env .C) (tables 𝓤 H 𝓜 𝓡 code.env .Λ) #lent code.function (code.unfolded 𝓤 H 𝓜 𝓡)
     (lent-meets 𝓤 H (𝓖 .A) (givenOf 𝓤 H 𝓜 𝓖) (𝓜 .mem) (𝓡 .run) (tablesOf 𝓤 H 𝓜 (tables 𝓤 H 𝓜 𝓡 code.env))
-    (cited 𝓤 H (ChainOf 𝓤 H (𝓖 .A) (𝓜 .mem) (𝓡 .run)) 𝓜 𝓡 code.env #chain chain-of-def.routine code.calls-board·call·chain-of (chain-of-thm.met 𝓤 H 𝓜 𝓖 𝓡))
+    (cited 𝓤 H (ChainOf 𝓤 H (𝓖 .A) (𝓜 .mem) (𝓡 .run)) 𝓜 𝓡 code.env #chain chain-of-def.routine code.calls-board·call·changed (chain-of-thm.met 𝓤 H 𝓜 𝓖 𝓡))
     (cited 𝓤 H (CodeOf 𝓤 H (𝓖 .A) (𝓜 .mem) (𝓡 .run)) 𝓜 𝓡 code.env #code code-of-def.routine code.calls-board·call·code-of (code-of-thm.met 𝓤 H 𝓜 𝓖 𝓡))
-    (cited 𝓤 H (Event 𝓤 H (𝓖 .A) (𝓜 .mem) (𝓡 .run)) 𝓜 𝓡 code.env #event by-value-def.routine code.calls-board·call·event (by-value-thm.met 𝓤 H 𝓜 𝓖 𝓡)))
+    (cited 𝓤 H (Event 𝓤 H (𝓖 .A) (𝓜 .mem) (𝓡 .run)) 𝓜 𝓡 code.env #event by-value-def.routine code.calls-board·call·judged (by-value-thm.met 𝓤 H 𝓜 𝓖 𝓡)))

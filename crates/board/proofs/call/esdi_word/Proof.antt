@@ -34,9 +34,9 @@ use denote.Triple.Table.{entered, cited}
 use denote.Triple.Walked.{says, Stays, stay-ref, stay-none, stay-dropped, walkOf, AllGo, goes-none, goes-dropped, goes-ref, Walks, ends-at, walked, walk-meets}
 use denote.Exit.{yes}
 use denote.Triple.Clauses.{ensured, lasts}
-use Rattle.chain.specs.declared.Chain.{Chain}
-use Rattle.chain.proofs.Chain as T
-use Rattle.chain.proofs.Chain.Laws as T′
+use Rattle.record.specs.declared.Chain.{Chain}
+use Rattle.record.proofs.Chain as T
+use Rattle.record.proofs.Chain.Laws as T′
 use Rattle.calls.specs.declared.Coded.{Coded}
 use Rattle.calls.proofs.Coded as S
 use Rattle.calls.proofs.Coded.Laws as S′

@@ -6,7 +6,7 @@ use Rattle.calls.proofs.packs.pack_at.Statement.{statement}
 use Rattle.calls.proofs.packs.pack_at.Tie as tie
 use Rattle.calls.proofs.packs.pack_at.Reads as reads
 use Rattle.calls.proofs.packs.pack_at.Lts as lts
-use Rattle.chain.proofs.record.pack_in.Reads as pack-in-reads
+use Rattle.record.proofs.slots.pack_in.Reads as pack-in-reads
 use Rattle.pack.proofs.Pack.none.Reads as none-reads
 use Rattle.pack.proofs.read.read.Reads as read-reads
 

@@ -8,10 +8,10 @@ use Rattle.calls.proofs.words.word_at.Reads as reads
 use Rattle.calls.proofs.words.word_at.Lts as lts
 use Rattle.calls.proofs.words.refused.Reads as refused-reads
 use Rattle.calls.proofs.words.sent.Reads as sent-reads
-use Rattle.chain.proofs.record.fitted.Reads as fitted-reads
-use Rattle.chain.proofs.record.pack_in.Reads as pack-in-reads
-use Rattle.chain.proofs.record.state_in.Reads as state-in-reads
-use Rattle.chain.proofs.sound.is_sound.Reads as is-sound-reads
+use Rattle.decision.proofs.fitted.Reads as fitted-reads
+use Rattle.record.proofs.slots.pack_in.Reads as pack-in-reads
+use Rattle.record.proofs.slots.state_in.Reads as state-in-reads
+use Rattle.soundness.proofs.is_sound.Reads as is-sound-reads
 
 is-sound-requires : tie.Need-is-sound-requires
 is-sound-requires c κs = search needs
