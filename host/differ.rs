@@ -460,9 +460,7 @@ fn large() -> bool {
     let mut record = esdi::empty();
     let ours = (esdi::fit(&mut record, file), esdi::packs(file));
     let same = ours == ((36, 0), (36, 0, 0)) && record == esdi::empty();
-    if !same {
-        println!("DIFFERENCE on a file of {} bytes: {:?}", length, ours);
-    }
+    println!("a file of {} bytes: {}", length, if same { "36 at 0, the record left".to_string() } else { format!("DIFFERENCE, {:?}", ours) });
     same
 }
 

@@ -1,14 +1,8 @@
+-- `calls::fit::fit` meets its contract: each return rewrites with the tests that led there.
 use Rattle.calls.specs.Fit.{fitOf}
 use borrow.Author.Needs.{needs}
-use borrow.Author.Tests.{lt-ltb, le-ltb, le-leb, lt-leb, eq-eqb, ne-eqb, not-true, not-false}
-use native.Mathlib.Omega.{arith}
 use Rattle.calls.proofs.fit.fit.Statement.{statement}
 use Rattle.calls.proofs.fit.fit.Tie as tie
-use Rattle.calls.proofs.fit.fit.Reads as reads
-use Rattle.calls.proofs.fit.fit.Lts as lts
-use Rattle.calls.proofs.fit.fitted_or.Reads as fitted-or-reads
-use Rattle.calls.proofs.fit.read_code.Reads as read-code-reads
-use Rattle.chain.proofs.fresh.fit.Reads as fit-reads
 
 fit-requires : tie.Need-fit-requires
 fit-requires c κs = search needs

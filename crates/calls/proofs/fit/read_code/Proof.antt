@@ -1,11 +1,7 @@
+-- `calls::fit::read_code` meets its contract: each return rewrites with the tests that led there.
 use borrow.Author.Needs.{needs}
-use borrow.Author.Tests.{lt-ltb, le-ltb, le-leb, lt-leb, eq-eqb, ne-eqb, not-true, not-false}
-use native.Mathlib.Omega.{arith}
 use Rattle.calls.proofs.fit.read_code.Statement.{statement}
 use Rattle.calls.proofs.fit.read_code.Tie as tie
-use Rattle.calls.proofs.fit.read_code.Reads as reads
-use Rattle.calls.proofs.fit.read_code.Lts as lts
-use Rattle.pack.proofs.number.Reads as number-reads
 
 enum-told : tie.Need-enum-told
 enum-told c = search needs

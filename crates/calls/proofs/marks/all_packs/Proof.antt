@@ -1,11 +1,7 @@
+-- `calls::marks::all_packs` meets its contract: each return rewrites with the tests that led there.
 use borrow.Author.Needs.{needs}
-use borrow.Author.Tests.{lt-ltb, le-ltb, le-leb, lt-leb, eq-eqb, ne-eqb, not-true, not-false}
-use native.Mathlib.Omega.{arith}
 use Rattle.calls.proofs.marks.all_packs.Statement.{statement}
 use Rattle.calls.proofs.marks.all_packs.Tie as tie
-use Rattle.calls.proofs.marks.all_packs.Reads as reads
-use Rattle.calls.proofs.marks.all_packs.Lts as lts
-use Rattle.calls.proofs.marks.pack_of.Reads as pack-of-reads
 
 pack-of-requires : tie.Need-pack-of-requires
 pack-of-requires c κs = search needs

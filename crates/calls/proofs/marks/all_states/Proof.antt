@@ -1,11 +1,7 @@
+-- `calls::marks::all_states` meets its contract: each return rewrites with the tests that led there.
 use borrow.Author.Needs.{needs}
-use borrow.Author.Tests.{lt-ltb, le-ltb, le-leb, lt-leb, eq-eqb, ne-eqb, not-true, not-false}
-use native.Mathlib.Omega.{arith}
 use Rattle.calls.proofs.marks.all_states.Statement.{statement}
 use Rattle.calls.proofs.marks.all_states.Tie as tie
-use Rattle.calls.proofs.marks.all_states.Reads as reads
-use Rattle.calls.proofs.marks.all_states.Lts as lts
-use Rattle.calls.proofs.marks.state_of.Reads as state-of-reads
 
 state-of-requires : tie.Need-state-of-requires
 state-of-requires c κs = search needs

@@ -1,14 +1,8 @@
+-- `calls::marks::marked` meets its contract: each return rewrites with the tests that led there.
 use Rattle.calls.specs.Marks.{markedChain}
 use borrow.Author.Needs.{needs}
-use borrow.Author.Tests.{lt-ltb, le-ltb, le-leb, lt-leb, eq-eqb, ne-eqb, not-true, not-false}
-use native.Mathlib.Omega.{arith}
 use Rattle.calls.proofs.marks.marked.Statement.{statement}
 use Rattle.calls.proofs.marks.marked.Tie as tie
-use Rattle.calls.proofs.marks.marked.Reads as reads
-use Rattle.calls.proofs.marks.marked.Lts as lts
-use Rattle.calls.proofs.marks.all_packs.Reads as all-packs-reads
-use Rattle.calls.proofs.marks.all_states.Reads as all-states-reads
-use Rattle.calls.proofs.marks.lines.Reads as lines-reads
 
 all-packs-requires : tie.Need-all-packs-requires
 all-packs-requires c κs = search needs

@@ -1,12 +1,8 @@
+-- `calls::packs::count` meets its contract: each return rewrites with the tests that led there.
 use Rattle.calls.specs.Packs.{countOf}
 use borrow.Author.Needs.{needs}
-use borrow.Author.Tests.{lt-ltb, le-ltb, le-leb, lt-leb, eq-eqb, ne-eqb, not-true, not-false}
-use native.Mathlib.Omega.{arith}
 use Rattle.calls.proofs.packs.count.Statement.{statement}
 use Rattle.calls.proofs.packs.count.Tie as tie
-use Rattle.calls.proofs.packs.count.Reads as reads
-use Rattle.calls.proofs.packs.count.Lts as lts
-use Rattle.calls.proofs.packs.one.Reads as one-reads
 
 array-copy-out-one : tie.Need-array-copy-out-one
 array-copy-out-one c = search needs

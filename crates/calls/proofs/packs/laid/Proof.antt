@@ -1,12 +1,7 @@
+-- `calls::packs::laid` meets its contract: each return rewrites with the tests that led there.
 use borrow.Author.Needs.{needs}
-use borrow.Author.Tests.{lt-ltb, le-ltb, le-leb, lt-leb, eq-eqb, ne-eqb, not-true, not-false}
-use native.Mathlib.Omega.{arith}
 use Rattle.calls.proofs.packs.laid.Statement.{statement}
 use Rattle.calls.proofs.packs.laid.Tie as tie
-use Rattle.calls.proofs.packs.laid.Reads as reads
-use Rattle.calls.proofs.packs.laid.Lts as lts
-use Rattle.calls.proofs.packs.laid_number.Reads as laid-number-reads
-use Rattle.pack.proofs.lay.lay.Reads as lay-reads
 
 lay-requires : tie.Need-lay-requires
 lay-requires c κs = search needs

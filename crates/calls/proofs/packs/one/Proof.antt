@@ -1,10 +1,8 @@
-use borrow.Author.Needs.{needs}
-use borrow.Author.Tests.{lt-ltb, le-ltb, le-leb, lt-leb, eq-eqb, ne-eqb, not-true, not-false}
+-- `calls::packs::one` meets its contract: each return rewrites with the tests that led there.
+use borrow.Author.Tests.{eq-eqb, ne-eqb}
 use native.Mathlib.Omega.{arith}
 use Rattle.calls.proofs.packs.one.Statement.{statement}
 use Rattle.calls.proofs.packs.one.Tie as tie
-use Rattle.calls.proofs.packs.one.Reads as reads
-use Rattle.calls.proofs.packs.one.Lts as lts
 
 returns : tie.Need-returns
 returns c = record { is = simp (eq-eqb _ _ (c .if1 .taken)); most = omega arith }

@@ -1,14 +1,9 @@
+-- `calls::packs::pack_at` meets its contract: each return rewrites with the tests that led there.
 use Rattle.calls.specs.Packs.{packOf}
 use borrow.Author.Needs.{needs}
-use borrow.Author.Tests.{lt-ltb, le-ltb, le-leb, lt-leb, eq-eqb, ne-eqb, not-true, not-false}
-use native.Mathlib.Omega.{arith}
+use borrow.Author.Tests.{lt-ltb, le-ltb, le-leb, lt-leb}
 use Rattle.calls.proofs.packs.pack_at.Statement.{statement}
 use Rattle.calls.proofs.packs.pack_at.Tie as tie
-use Rattle.calls.proofs.packs.pack_at.Reads as reads
-use Rattle.calls.proofs.packs.pack_at.Lts as lts
-use Rattle.record.proofs.slots.pack_in.Reads as pack-in-reads
-use Rattle.pack.proofs.Pack.none.Reads as none-reads
-use Rattle.pack.proofs.read.read.Reads as read-reads
 
 none-requires : tie.Need-none-requires
 none-requires c κs = search needs

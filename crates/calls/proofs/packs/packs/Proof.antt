@@ -1,14 +1,8 @@
+-- `calls::packs::packs` meets its contract: each return rewrites with the tests that led there.
 use Rattle.calls.specs.Packs.{packsOf}
 use borrow.Author.Needs.{needs}
-use borrow.Author.Tests.{lt-ltb, le-ltb, le-leb, lt-leb, eq-eqb, ne-eqb, not-true, not-false}
-use native.Mathlib.Omega.{arith}
 use Rattle.calls.proofs.packs.packs.Statement.{statement}
 use Rattle.calls.proofs.packs.packs.Tie as tie
-use Rattle.calls.proofs.packs.packs.Reads as reads
-use Rattle.calls.proofs.packs.packs.Lts as lts
-use Rattle.calls.proofs.fit.read_code.Reads as read-code-reads
-use Rattle.calls.proofs.packs.count.Reads as count-reads
-use Rattle.pack.proofs.read.read.Reads as read-reads
 
 read-requires : tie.Need-read-requires
 read-requires c κs = search needs

@@ -1,10 +1,7 @@
+-- `calls::words::code` meets its contract: each return rewrites with the tests that led there.
 use borrow.Author.Needs.{needs}
-use borrow.Author.Tests.{lt-ltb, le-ltb, le-leb, lt-leb, eq-eqb, ne-eqb, not-true, not-false}
-use native.Mathlib.Omega.{arith}
 use Rattle.calls.proofs.words.code.Statement.{statement}
 use Rattle.calls.proofs.words.code.Tie as tie
-use Rattle.calls.proofs.words.code.Reads as reads
-use Rattle.calls.proofs.words.code.Lts as lts
 
 enum-told : tie.Need-enum-told
 enum-told c = search needs

@@ -1,13 +1,8 @@
+-- `calls::words::outcome` meets its contract: each return rewrites with the tests that led there.
 use Rattle.calls.specs.Words.{outcomeOf}
 use borrow.Author.Needs.{needs}
-use borrow.Author.Tests.{lt-ltb, le-ltb, le-leb, lt-leb, eq-eqb, ne-eqb, not-true, not-false}
-use native.Mathlib.Omega.{arith}
 use Rattle.calls.proofs.words.outcome.Statement.{statement}
 use Rattle.calls.proofs.words.outcome.Tie as tie
-use Rattle.calls.proofs.words.outcome.Reads as reads
-use Rattle.calls.proofs.words.outcome.Lts as lts
-use Rattle.word.proofs.carry.Reads as carry-reads
-use Rattle.word.proofs.refuses.Reads as refuses-reads
 
 refuses-requires : tie.Need-refuses-requires
 refuses-requires c κs = search needs

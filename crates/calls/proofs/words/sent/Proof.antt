@@ -1,16 +1,8 @@
+-- `calls::words::sent` meets its contract: each return rewrites with the tests that led there.
 use Rattle.calls.specs.Words.{sentOf}
 use borrow.Author.Needs.{needs}
-use borrow.Author.Tests.{lt-ltb, le-ltb, le-leb, lt-leb, eq-eqb, ne-eqb, not-true, not-false}
-use native.Mathlib.Omega.{arith}
 use Rattle.calls.proofs.words.sent.Statement.{statement}
 use Rattle.calls.proofs.words.sent.Tie as tie
-use Rattle.calls.proofs.words.sent.Reads as reads
-use Rattle.calls.proofs.words.sent.Lts as lts
-use Rattle.calls.proofs.words.code.Reads as code-reads
-use Rattle.calls.proofs.words.fault_number.Reads as fault-number-reads
-use Rattle.calls.proofs.words.outcome.Reads as outcome-reads
-use Rattle.calls.proofs.words.state_in.Reads as state-in-reads
-use Rattle.word.proofs.plain.Reads as plain-reads
 
 plain-requires : tie.Need-plain-requires
 plain-requires c κs = search needs

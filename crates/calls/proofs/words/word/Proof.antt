@@ -1,13 +1,9 @@
+-- `calls::words::word` meets its contract: each return rewrites with the tests that led there.
 use Rattle.calls.specs.Words.{wordOf}
 use borrow.Author.Needs.{needs}
-use borrow.Author.Tests.{lt-ltb, le-ltb, le-leb, lt-leb, eq-eqb, ne-eqb, not-true, not-false}
-use native.Mathlib.Omega.{arith}
+use borrow.Author.Tests.{lt-ltb, le-ltb, le-leb, lt-leb}
 use Rattle.calls.proofs.words.word.Statement.{statement}
 use Rattle.calls.proofs.words.word.Tie as tie
-use Rattle.calls.proofs.words.word.Reads as reads
-use Rattle.calls.proofs.words.word.Lts as lts
-use Rattle.calls.proofs.words.refused.Reads as refused-reads
-use Rattle.calls.proofs.words.word_at.Reads as word-at-reads
 
 refused-requires : tie.Need-refused-requires
 refused-requires c κs = search needs

@@ -1,17 +1,9 @@
+-- `calls::words::word_at` meets its contract: each return rewrites with the tests that led there.
 use Rattle.calls.specs.Words.{wordAt}
 use borrow.Author.Needs.{needs}
-use borrow.Author.Tests.{lt-ltb, le-ltb, le-leb, lt-leb, eq-eqb, ne-eqb, not-true, not-false}
-use native.Mathlib.Omega.{arith}
+use borrow.Author.Tests.{not-true, not-false}
 use Rattle.calls.proofs.words.word_at.Statement.{statement}
 use Rattle.calls.proofs.words.word_at.Tie as tie
-use Rattle.calls.proofs.words.word_at.Reads as reads
-use Rattle.calls.proofs.words.word_at.Lts as lts
-use Rattle.calls.proofs.words.refused.Reads as refused-reads
-use Rattle.calls.proofs.words.sent.Reads as sent-reads
-use Rattle.decision.proofs.fitted.Reads as fitted-reads
-use Rattle.record.proofs.slots.pack_in.Reads as pack-in-reads
-use Rattle.record.proofs.slots.state_in.Reads as state-in-reads
-use Rattle.soundness.proofs.is_sound.Reads as is-sound-reads
 
 is-sound-requires : tie.Need-is-sound-requires
 is-sound-requires c κs = search needs
