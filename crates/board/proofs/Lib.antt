@@ -1,5 +1,1 @@
 pub mod Leaves
-mod Lend
-mod LendWord
-mod LendFit
-mod LendAlone

@@ -1,4 +1,4 @@
--- `board::call::esdi_event` meets its contract: the walk of `Lend`, at the chain record. Nothing here names a field of the record.
+-- `board::call::esdi_event` meets its contract: the walk of `lend/Event`, at the chain record. Nothing here names a field of the record.
 -- Assumes nothing.
 use mathlib.Core.Path.{_≡_, refl, _∙_, ap}
 use Prim.Native.Nat.{ℕ, _<_, _^_}
@@ -61,7 +61,7 @@ use Rattle.board.proofs.call.esdi_event.Key.{name as #lent}
 use Rattle.board.proofs.call.esdi_event as lent
 use Rattle.board.proofs.call.esdi_event.Statement as stated
 use Rattle.board.proofs.call.esdi_event.Code as code
-use Rattle.board.proofs.Lend as lend
+use Rattle.lend.proofs.Event as lend
 
 abbrev Arg : Type 0
 Arg = RefT Chain × (RefT (List ℕ) × (ℕ × (ℕ × (ℕ × Unit {0}))))

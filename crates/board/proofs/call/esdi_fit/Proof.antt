@@ -1,4 +1,4 @@
--- `board::call::esdi_fit` meets its contract: the walk of `LendFit`, at the chain record. Nothing here names a field of the record.
+-- `board::call::esdi_fit` meets its contract: the walk of `lend/Fit`, at the chain record. Nothing here names a field of the record.
 -- Assumes nothing.
 use mathlib.Core.Path.{_≡_, refl, _∙_, ap}
 use Prim.Native.Nat.{ℕ}
@@ -57,7 +57,7 @@ use Rattle.board.proofs.call.esdi_fit.Key.{name as #lent}
 use Rattle.board.proofs.call.esdi_fit as lent
 use Rattle.board.proofs.call.esdi_fit.Statement as stated
 use Rattle.board.proofs.call.esdi_fit.Code as code
-use Rattle.board.proofs.LendFit as lend
+use Rattle.lend.proofs.Fit as lend
 
 abbrev stayed : Stays (lent.ended .signature .params) (lent.ended .kept)
 stayed = (stay-ref (0 ∷ []) tt (plain (λ _. T.the-row)), (stay-dropped (shrSliceOf (1 ∷ []) tt (plain (λ _. u8))) yes, tt))

@@ -1,4 +1,4 @@
--- `board::call::esdi_marks` meets its contract: the walk of `LendAlone`, at the chain record. Nothing here names a field of the record.
+-- `board::call::esdi_marks` meets its contract: the walk of `lend/Alone`, at the chain record. Nothing here names a field of the record.
 -- Assumes nothing.
 use mathlib.Core.Path.{_≡_, refl}
 use Prim.Native.Nat.{ℕ}
@@ -40,7 +40,7 @@ use Rattle.board.proofs.call.esdi_marks.Key.{name as #lent}
 use Rattle.board.proofs.call.esdi_marks as lent
 use Rattle.board.proofs.call.esdi_marks.Statement as stated
 use Rattle.board.proofs.call.esdi_marks.Code as code
-use Rattle.board.proofs.LendAlone as lend
+use Rattle.lend.proofs.Alone as lend
 
 abbrev stayed : Stays (lent.ended .signature .params) (lent.ended .kept)
 stayed = (stay-ref (0 ∷ []) tt (plain (λ _. T.the-row)), tt)

@@ -1,4 +1,4 @@
--- `board::call::esdi_word` meets its contract: the walk of `LendWord`, at the chain record. Nothing here names a field of the record.
+-- `board::call::esdi_word` meets its contract: the walk of `lend/Word`, at the chain record. Nothing here names a field of the record.
 -- Assumes nothing.
 use mathlib.Core.Path.{_≡_, refl, _∙_, ap}
 use Prim.Native.Nat.{ℕ, _<_, _^_}
@@ -55,7 +55,7 @@ use Rattle.board.proofs.call.esdi_word.Key.{name as #lent}
 use Rattle.board.proofs.call.esdi_word as lent
 use Rattle.board.proofs.call.esdi_word.Statement as stated
 use Rattle.board.proofs.call.esdi_word.Code as code
-use Rattle.board.proofs.LendWord as lend
+use Rattle.lend.proofs.Word as lend
 
 abbrev stayed : Stays (lent.ended .signature .params) (lent.ended .kept)
 stayed = (stay-ref (0 ∷ []) tt (plain (λ _. T.the-row)), (stay-none (λ _. u32) yes, (stay-none (λ _. u32) yes, tt)))

@@ -1,5 +1,5 @@
 -- A record lent by `&mut` alone: looked at by a by-value function, or filled by one. Walks of the MIR that do not know the record's
--- type (as `Lend`). Assumes nothing.
+-- type (as `Event`). Assumes nothing.
 use mathlib.Core.Path.{_≡_, refl}
 use Prim.Native.Nat.{ℕ}
 use mathlib.Core.List.{[], _∷_, List}

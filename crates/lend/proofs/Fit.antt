@@ -1,5 +1,5 @@
 -- A record lent by `&mut`, beside a file lent to be read, over a by-value function: a walk of the MIR that knows neither the record's type
--- nor the result's (as `Lend`). Assumes nothing.
+-- nor the result's (as `Event`). Assumes nothing.
 use mathlib.Core.Path.{_≡_, refl}
 use Prim.Native.Nat.{ℕ}
 use mathlib.Core.List.{[], _∷_, List}

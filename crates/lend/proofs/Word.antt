@@ -1,5 +1,5 @@
 -- A record lent by `&mut`, beside two numbers, over a by-value function: a walk of the MIR that knows neither the record's type nor the
--- result's (as `Lend`, without a file). Assumes nothing.
+-- result's (as `Event`, without a file). Assumes nothing.
 use mathlib.Core.Path.{_≡_, refl}
 use Prim.Native.Nat.{ℕ, _<_, _^_}
 use mathlib.Core.List.{[], _∷_, List}

@@ -1,0 +1,4 @@
+pub mod Event
+pub mod Word
+pub mod Fit
+pub mod Alone
