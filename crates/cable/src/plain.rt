@@ -1,0 +1,43 @@
+// A word handed to the plain word rules, on the selected drive's state.
+use chain::Chain;
+use chain::record;
+use drive::State;
+use word::Told;
+
+pub struct Answered {
+    pub chain: Chain,
+    // seventeen bits, 0 where there is no response
+    pub response: u32,
+}
+
+fn bits_of(told: Told) -> u32 {
+    match told {
+        Told::Nothing => 0,
+        Told::Word(n) => n,
+    }
+}
+
+fn with_state(c: Chain, slot: u8, s: State) -> Chain {
+    if slot < 1 {
+        return c;
+    }
+    if slot > 7 {
+        return c;
+    }
+    let i = (slot - 1) as usize;
+    let mut e = c;
+    e.states[i] = s;
+    e
+}
+
+pub fn plain(c: Chain, word: u32) -> Answered {
+    let slot = c.lines.select;
+    let p = record::pack_in(c.packs, slot);
+    let s = record::state_in(c.states, slot);
+    let a = word::plain(p.profile, s, word);
+    let told = a.told;
+    Answered {
+        chain: with_state(c, slot, a.state),
+        response: bits_of(told),
+    }
+}

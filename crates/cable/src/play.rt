@@ -1,0 +1,100 @@
+// Events on the cable, one by one or a word's together.
+use crate::tally;
+use crate::tally::Tally;
+use bench::Bench;
+use bench::ROOM;
+use bench::Told;
+use chain::fresh;
+
+// told: what the last event came to. steady: the events before it, within a word, came as they must.
+pub struct Play {
+    pub bench: Bench,
+    pub told: Told,
+    pub steady: bool,
+    pub tally: Tally,
+}
+
+pub fn event(p: Play, file: &mut [u8; ROOM], kind: u32, a: u32, b: u32) -> Play {
+    let m = bench::meet(p.bench, file, kind, a, b);
+    let bench = m.bench;
+    let told = m.told;
+    let tally = tally::counted(p.tally, kind, told.answer);
+    Play {
+        bench,
+        told,
+        steady: p.steady,
+        tally,
+    }
+}
+
+// An event within a word is taken and leaves these lines.
+fn kept(p: Play, sum: u8) -> Play {
+    let mut q = p;
+    q.steady = p.steady & (p.told.answer == 0) & (p.told.value == 0) & (p.told.sum == sum);
+    q
+}
+
+// Nothing was played yet that could be amiss.
+pub fn begun(p: Play) -> Play {
+    let mut q = p;
+    q.steady = true;
+    q
+}
+
+// The lines while a transfer is open and request low: selected, ready and attention stay, complete is gone.
+fn open_sum(sum: u8) -> u8 {
+    sum % 4 + sum / 16 % 2 * 16
+}
+
+// A bit taken: the data line, then request's rise, which raises acknowledge.
+fn taken(p: Play, file: &mut [u8; ROOM], bit: u32, before: u8, open: u8) -> Play {
+    let set = kept(event(p, file, 4, bit, 0), before);
+    kept(event(set, file, 5, 1, 0), open + 4)
+}
+
+// Request's fall; the last one's answer is left to the script.
+fn fallen(p: Play, file: &mut [u8; ROOM], open: u8, last: bool) -> Play {
+    let q = event(p, file, 5, 0, 0);
+    if last {
+        return q;
+    }
+    kept(q, open)
+}
+
+// The first bits of a word of seventeen.
+pub fn send(p: Play, file: &mut [u8; ROOM], word: u32, count: u32) -> Play {
+    let mut q = begun(p);
+    let mut before = fresh::line_sum(p.bench.chain);
+    let open = open_sum(before);
+    let mut n = word;
+    let mut left = count;
+    while left > 0 {
+        q = taken(q, file, n / 65_536 % 2, before, open);
+        q = fallen(q, file, open, left == 1);
+        before = open;
+        n = n % 65_536 * 2;
+        left -= 1;
+    }
+    q
+}
+
+// A response bit put out: request's rise raises acknowledge, and data shows the bit.
+fn put_out(p: Play, file: &mut [u8; ROOM], bit: u32, open: u8) -> Play {
+    let sum = open + 4 + (bit % 2) as u8 * 8;
+    kept(event(p, file, 5, 1, 0), sum)
+}
+
+// A response of seventeen bits, which must be this one.
+pub fn take(p: Play, file: &mut [u8; ROOM], word: u32) -> Play {
+    let mut q = begun(p);
+    let open = open_sum(fresh::line_sum(p.bench.chain));
+    let mut n = word;
+    let mut left = 17;
+    while left > 0 {
+        q = put_out(q, file, n / 65_536 % 2, open);
+        q = fallen(q, file, open, left == 1);
+        n = n % 65_536 * 2;
+        left -= 1;
+    }
+    q
+}
