@@ -15,7 +15,7 @@ use handshake::Transfer;
 use pack::Pack;
 use unit::Lines;
 
-const NO_FIELD: u32 = 4_294_967_295;
+pub const NO_FIELD: u32 = 4_294_967_295;
 
 fn narrow(v: u32) -> u8 {
     (v % 256) as u8
@@ -227,15 +227,18 @@ fn with_pack(p: Pack, name: &[u8], v: u32) -> Pack {
         return e;
     }
     if same(name, b"slot") {
-        e.profile.slot = narrow(v);
+        let slot = narrow(v);
+        e.profile.slot = slot;
         return e;
     }
     if same(name, b"general") {
-        e.profile.general = half(v);
+        let general = half(v);
+        e.profile.general = general;
         return e;
     }
     if same(name, b"protected") {
-        e.profile.protected = narrow(v);
+        let protected = narrow(v);
+        e.profile.protected = protected;
         return e;
     }
     e

@@ -32,8 +32,10 @@ fn with_state(c: Chain, slot: u8, s: State) -> Chain {
 
 pub fn plain(c: Chain, word: u32) -> Answered {
     let slot = c.lines.select;
-    let p = record::pack_in(c.packs, slot);
-    let s = record::state_in(c.states, slot);
+    let packs = c.packs;
+    let states = c.states;
+    let p = record::pack_in(packs, slot);
+    let s = record::state_in(states, slot);
     let a = word::plain(p.profile, s, word);
     let told = a.told;
     Answered {

@@ -4,6 +4,7 @@ use crate::tally::Tally;
 use bench::Bench;
 use bench::ROOM;
 use bench::Told;
+use chain::Chain;
 use chain::fresh;
 
 // told: what the last event came to. steady: the events before it, within a word, came as they must.
@@ -12,6 +13,23 @@ pub struct Play {
     pub told: Told,
     pub steady: bool,
     pub tally: Tally,
+}
+
+// The same on another bench.
+pub fn with_bench(p: Play, bench: Bench) -> Play {
+    let mut q = p;
+    q.bench = bench;
+    q
+}
+
+pub fn with_chain(p: Play, chain: Chain) -> Play {
+    let lent = p.bench.lent;
+    with_bench(p, Bench { chain, lent })
+}
+
+pub fn with_lent(p: Play, lent: usize) -> Play {
+    let chain = p.bench.chain;
+    with_bench(p, Bench { chain, lent })
 }
 
 pub fn event(p: Play, file: &mut [u8; ROOM], kind: u32, a: u32, b: u32) -> Play {
@@ -28,9 +46,9 @@ pub fn event(p: Play, file: &mut [u8; ROOM], kind: u32, a: u32, b: u32) -> Play 
 }
 
 // An event within a word is taken and leaves these lines.
-fn kept(p: Play, sum: u8) -> Play {
+fn kept(p: Play, sum: u32) -> Play {
     let mut q = p;
-    q.steady = p.steady & (p.told.answer == 0) & (p.told.value == 0) & (p.told.sum == sum);
+    q.steady = p.steady & (p.told.answer == 0) & (p.told.value == 0) & (p.told.sum as u32 == sum);
     q
 }
 
@@ -48,8 +66,8 @@ fn open_sum(sum: u8) -> u8 {
 
 // A bit taken: the data line, then request's rise, which raises acknowledge.
 fn taken(p: Play, file: &mut [u8; ROOM], bit: u32, before: u8, open: u8) -> Play {
-    let set = kept(event(p, file, 4, bit, 0), before);
-    kept(event(set, file, 5, 1, 0), open + 4)
+    let set = kept(event(p, file, 4, bit, 0), before as u32);
+    kept(event(set, file, 5, 1, 0), open as u32 + 4)
 }
 
 // Request's fall; the last one's answer is left to the script.
@@ -58,7 +76,7 @@ fn fallen(p: Play, file: &mut [u8; ROOM], open: u8, last: bool) -> Play {
     if last {
         return q;
     }
-    kept(q, open)
+    kept(q, open as u32)
 }
 
 // The first bits of a word of seventeen.
@@ -80,7 +98,7 @@ pub fn send(p: Play, file: &mut [u8; ROOM], word: u32, count: u32) -> Play {
 
 // A response bit put out: request's rise raises acknowledge, and data shows the bit.
 fn put_out(p: Play, file: &mut [u8; ROOM], bit: u32, open: u8) -> Play {
-    let sum = open + 4 + (bit % 2) as u8 * 8;
+    let sum = open as u32 + 4 + bit % 2 * 8;
     kept(event(p, file, 5, 1, 0), sum)
 }
 
@@ -89,7 +107,7 @@ pub fn take(p: Play, file: &mut [u8; ROOM], word: u32) -> Play {
     let mut q = begun(p);
     let open = open_sum(fresh::line_sum(p.bench.chain));
     let mut n = word;
-    let mut left = 17;
+    let mut left: u32 = 17;
     while left > 0 {
         q = put_out(q, file, n / 65_536 % 2, open);
         q = fallen(q, file, open, left == 1);

@@ -10,6 +10,7 @@
 //     plain WORD PARITY = w p s      a word handed to the plain word rules: the response (0 0 if none) and the lines
 //     set SLOT FIELD = value         the record is changed behind the chain's back
 //     is SLOT FIELD = value          the record holds this
+//     at PLACE = value               the file holds this byte
 //     lend LENGTH                    so much of the file is lent
 use crate::fields;
 use crate::plain;
@@ -143,9 +144,8 @@ fn taken(r: Run, file: &mut [u8; ROOM], line: &[u8], word: u32) -> Run {
 // The response and the lines are what the numbers behind = say.
 fn plainly(r: Run, line: &[u8], word: u32) -> Run {
     let a = plain::plain(r.play.bench.chain, word);
-    let mut p = r.play;
     let chain = a.chain;
-    p.bench.chain = chain;
+    let p = play::with_chain(r.play, chain);
     let response = words::number_at(line, 4);
     let parity = words::number_at(line, 5);
     let good = words::is_at(line, 3, b"=")
@@ -175,7 +175,9 @@ const LEND: u8 = 6;
 
 const FIT: u8 = 7;
 
-const EVENT: u8 = 8;
+const AT: u8 = 8;
+
+const EVENT: u8 = 9;
 
 fn verb(line: &[u8]) -> u8 {
     if words::is_at(line, 0, b"send") {
@@ -202,6 +204,9 @@ fn verb(line: &[u8]) -> u8 {
     if words::is_at(line, 0, b"fit") {
         return FIT;
     }
+    if words::is_at(line, 0, b"at") {
+        return AT;
+    }
     EVENT
 }
 
@@ -223,16 +228,14 @@ fn word(r: Run, file: &mut [u8; ROOM], line: &[u8], what: u8) -> Run {
 fn changed(r: Run, line: &[u8], slot: u32, v: u32) -> Run {
     let name = words::word(line, 2);
     let chain = fields::with_field(r.play.bench.chain, slot, name, v);
-    let mut e = r;
-    e.play.bench.chain = chain;
+    let e = with_play(r, play::with_chain(r.play, chain));
     if fields::field(chain, slot, name) == v {
         return e;
     }
     misread(e, line)
 }
 
-fn compared(r: Run, line: &[u8], slot: u32, v: u32) -> Run {
-    let held = fields::field(r.play.bench.chain, slot, words::word(line, 2));
+fn compared(r: Run, line: &[u8], held: u32, v: u32) -> Run {
     let mut e = r;
     e.fields = one_more(r.fields);
     if held == v {
@@ -241,6 +244,18 @@ fn compared(r: Run, line: &[u8], slot: u32, v: u32) -> Run {
     let d = differs(e, line, b"holds");
     say_number(held);
     d
+}
+
+fn wide(byte: u8) -> u32 {
+    byte as u32
+}
+
+fn byte_at(file: &[u8; ROOM], place: u32) -> u32 {
+    let i = place as usize;
+    if i >= ROOM {
+        return fields::NO_FIELD;
+    }
+    wide(file[i])
 }
 
 // A line about a field of the record.
@@ -253,7 +268,18 @@ fn record(r: Run, line: &[u8], what: u8) -> Run {
     if what == SET {
         return changed(r, line, slot.n, v.n);
     }
-    compared(r, line, slot.n, v.n)
+    let held = fields::field(r.play.bench.chain, slot.n, words::word(line, 2));
+    compared(r, line, held, v.n)
+}
+
+// A line about a byte of the file.
+fn medium(r: Run, file: &[u8; ROOM], line: &[u8]) -> Run {
+    let place = words::number_at(line, 1);
+    let v = words::number_at(line, 3);
+    if !(place.ok & v.ok & words::is_at(line, 2, b"=")) {
+        return misread(r, line);
+    }
+    compared(r, line, byte_at(file, place.n), v.n)
 }
 
 // A line about the file: another length of it, or a chain laid anew.
@@ -262,14 +288,11 @@ fn bench(r: Run, file: &mut [u8; ROOM], line: &[u8], what: u8) -> Run {
     if !n.ok {
         return misread(r, line);
     }
-    let mut e = r;
     if what == LEND {
-        e.play.bench.lent = n.n as usize;
-        return e;
+        return with_play(r, play::with_lent(r.play, n.n as usize));
     }
     let fresh = bench::fresh_chain(file, (n.n % 256) as u8);
-    e.play.bench = fresh;
-    e
+    with_play(r, play::with_bench(r.play, fresh))
 }
 
 fn played(r: Run, file: &mut [u8; ROOM], line: &[u8]) -> Run {
@@ -278,6 +301,7 @@ fn played(r: Run, file: &mut [u8; ROOM], line: &[u8]) -> Run {
         EVENT => event(r, file, line),
         SET | IS => record(r, line, what),
         LEND | FIT => bench(r, file, line, what),
+        AT => medium(r, file, line),
         _ => word(r, file, line, what),
     }
 }
@@ -299,8 +323,7 @@ fn titled(r: Run, file: &mut [u8; ROOM], line: &[u8]) -> Run {
     closed(r);
     say(line);
     let fresh = bench::fresh_chain(file, drives::NONE);
-    let mut e = r;
-    e.play.bench = fresh;
+    let mut e = with_play(r, play::with_bench(r.play, fresh));
     e.here = 0;
     e.sessions = one_more(r.sessions);
     e
@@ -329,8 +352,11 @@ fn total(name: &[u8], n: u32) {
 pub fn end(r: Run) {
     closed(r);
     total(b"sessions", r.sessions);
-    tally::say_kinds(r.play.tally.kinds);
-    tally::say_answers(r.play.tally.answers);
+    let tally = r.play.tally;
+    let kinds = tally.kinds;
+    let answers = tally.answers;
+    tally::say_kinds(kinds);
+    tally::say_answers(answers);
     total(b"fields", r.fields);
     total(b"differences", r.differences);
 }

@@ -56,10 +56,11 @@ fn answer_counted(answers: [u32; ANSWERS], answer: u8) -> [u32; ANSWERS] {
 }
 
 pub fn counted(t: Tally, kind: u32, answer: u8) -> Tally {
-    Tally {
-        kinds: kind_counted(t.kinds, kind),
-        answers: answer_counted(t.answers, answer),
-    }
+    let before = t.kinds;
+    let kinds = kind_counted(before, kind);
+    let given = t.answers;
+    let answers = answer_counted(given, answer);
+    Tally { kinds, answers }
 }
 
 fn say_each(name: &[u8], i: usize, n: u32) {

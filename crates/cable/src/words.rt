@@ -103,7 +103,7 @@ fn digits(word: &[u8], hex: bool) -> Number {
 }
 
 // Decimal, or hexadecimal with an h behind it.
-pub fn number(word: &[u8]) -> Number {
+pub fn said(word: &[u8]) -> Number {
     if word.len() == 0 {
         return Number { ok: false, n: 0 };
     }
@@ -115,7 +115,7 @@ pub fn number(word: &[u8]) -> Number {
 }
 
 pub fn number_at(line: &[u8], k: u8) -> Number {
-    number(word(line, k))
+    said(word(line, k))
 }
 
 pub fn is_at(line: &[u8], k: u8, text: &[u8]) -> bool {
