@@ -1,6 +1,6 @@
-// The record's fields by their names: those of a slot, and in slot 0 those of the cable. A name that no field has says NO_FIELD.
+// The record's fields by their names: those of a slot, and in slot 0 those of the cable.
+use crate::words::index;
 use chain::Chain;
-use check::same;
 use counts::Cylinder;
 use counts::Head;
 use counts::Micros;
@@ -15,6 +15,7 @@ use handshake::Transfer;
 use pack::Pack;
 use unit::Lines;
 
+// What a name says that no field has.
 pub const NO_FIELD: u32 = 4_294_967_295;
 
 fn narrow(v: u32) -> u8 {
@@ -25,110 +26,106 @@ fn half(v: u32) -> u16 {
     (v % 65_536) as u16
 }
 
-fn arm_field(a: Arm, name: &[u8]) -> u32 {
-    if same(name, b"cylinder") {
-        return a.cylinder.0 as u32;
-    }
-    if same(name, b"offset") {
-        return a.offset as u32;
-    }
-    if same(name, b"lost") {
-        return a.lost as u32;
-    }
-    NO_FIELD
+fn arm_name(name: &[u8]) -> u8 {
+    index(b"cylinder offset lost", name)
 }
 
-fn with_arm(a: Arm, name: &[u8], v: u32) -> Arm {
+fn arm_field(a: Arm, k: u8) -> u32 {
+    match k {
+        0 => a.cylinder.0 as u32,
+        1 => a.offset as u32,
+        2 => a.lost as u32,
+        _ => NO_FIELD,
+    }
+}
+
+fn with_arm(a: Arm, k: u8, v: u32) -> Arm {
     let mut e = a;
-    if same(name, b"cylinder") {
+    if k == 0 {
         let cylinder = Cylinder(half(v));
         e.cylinder = cylinder;
         return e;
     }
-    if same(name, b"offset") {
+    if k == 1 {
         e.offset = narrow(v);
         return e;
     }
-    if same(name, b"lost") {
+    if k == 2 {
         e.lost = narrow(v);
         return e;
     }
     e
 }
 
-fn timers_field(t: Timers, name: &[u8]) -> u32 {
-    if same(name, b"busy") {
-        return t.busy.0;
-    }
-    if same(name, b"switching") {
-        return t.head.0;
-    }
-    NO_FIELD
+fn timer_name(name: &[u8]) -> u8 {
+    index(b"busy switching", name)
 }
 
-fn with_timers(t: Timers, name: &[u8], v: u32) -> Timers {
+fn timers_field(t: Timers, k: u8) -> u32 {
+    match k {
+        0 => t.busy.0,
+        1 => t.head.0,
+        _ => NO_FIELD,
+    }
+}
+
+fn with_timers(t: Timers, k: u8, v: u32) -> Timers {
     let mut e = t;
     let us = Micros(v);
-    if same(name, b"busy") {
+    if k == 0 {
         e.busy = us;
         return e;
     }
-    if same(name, b"switching") {
+    if k == 1 {
         e.head = us;
         return e;
     }
     e
 }
 
-fn body_field(b: Body, name: &[u8]) -> u32 {
-    if same(name, b"latched") {
-        return b.latched.0 as u32;
-    }
-    if same(name, b"sector") {
-        return b.sector.0 as u32;
-    }
-    if same(name, b"head") {
-        return b.head.0 as u32;
-    }
-    if same(name, b"motor") {
-        return b.motor as u32;
-    }
-    if same(name, b"reading") {
-        return b.reading as u32;
-    }
-    if same(name, b"writing") {
-        return b.writing as u32;
-    }
-    NO_FIELD
+// The body's own fields.
+fn body_name(name: &[u8]) -> u8 {
+    index(b"latched sector head motor reading writing", name)
 }
 
-// The body's own fields.
-fn with_own(b: Body, name: &[u8], v: u32) -> Body {
+fn body_field(b: Body, k: u8) -> u32 {
+    match k {
+        0 => b.latched.0 as u32,
+        1 => b.sector.0 as u32,
+        2 => b.head.0 as u32,
+        3 => b.motor as u32,
+        4 => b.reading as u32,
+        5 => b.writing as u32,
+        _ => NO_FIELD,
+    }
+}
+
+fn with_own(b: Body, k: u8, v: u32) -> Body {
     let mut e = b;
-    if same(name, b"latched") {
+    if k == 0 {
         let latched = Latched(half(v));
         e.latched = latched;
         return e;
     }
-    if same(name, b"sector") {
+    if k == 1 {
         let sector = Position(half(v));
         e.sector = sector;
         return e;
     }
-    if same(name, b"head") {
+    if k == 2 {
         let head = Head(narrow(v));
         e.head = head;
         return e;
     }
-    if same(name, b"motor") {
+    if k == 3 {
         e.motor = narrow(v);
         return e;
     }
-    if same(name, b"reading") {
+    if k == 4 {
         e.reading = narrow(v);
         return e;
     }
-    if same(name, b"writing") {
+    if k == 5 {
         e.writing = narrow(v);
         return e;
     }
@@ -136,107 +133,97 @@ fn with_own(b: Body, name: &[u8], v: u32) -> Body {
 }
 
 fn with_body(b: Body, name: &[u8], v: u32) -> Body {
-    let arm = with_arm(b.arm, name, v);
-    let timers = with_timers(b.timers, name, v);
-    let mut e = with_own(b, name, v);
+    let arm = with_arm(b.arm, arm_name(name), v);
+    let timers = with_timers(b.timers, timer_name(name), v);
+    let mut e = with_own(b, body_name(name), v);
     e.arm = arm;
     e.timers = timers;
     e
 }
 
-fn transfer_field(t: Transfer, name: &[u8]) -> u32 {
-    if same(name, b"waiting") {
-        return t.waiting.0;
-    }
-    if same(name, b"bits") {
-        return t.bits;
-    }
-    if same(name, b"response") {
-        return t.response;
-    }
-    if same(name, b"way") {
-        return t.way as u32;
-    }
-    if same(name, b"count") {
-        return t.count as u32;
-    }
-    if same(name, b"acknowledge") {
-        return t.acknowledge as u32;
-    }
-    NO_FIELD
+fn transfer_name(name: &[u8]) -> u8 {
+    index(b"waiting bits response way count acknowledge", name)
 }
 
-fn with_transfer(t: Transfer, name: &[u8], v: u32) -> Transfer {
+fn transfer_field(t: Transfer, k: u8) -> u32 {
+    match k {
+        0 => t.waiting.0,
+        1 => t.bits,
+        2 => t.response,
+        3 => t.way as u32,
+        4 => t.count as u32,
+        5 => t.acknowledge as u32,
+        _ => NO_FIELD,
+    }
+}
+
+fn with_transfer(t: Transfer, k: u8, v: u32) -> Transfer {
     let mut e = t;
-    if same(name, b"waiting") {
+    if k == 0 {
         let waiting = Micros(v);
         e.waiting = waiting;
         return e;
     }
-    if same(name, b"bits") {
+    if k == 1 {
         e.bits = v;
         return e;
     }
-    if same(name, b"response") {
+    if k == 2 {
         e.response = v;
         return e;
     }
-    if same(name, b"way") {
+    if k == 3 {
         e.way = narrow(v);
         return e;
     }
-    if same(name, b"count") {
+    if k == 4 {
         e.count = narrow(v);
         return e;
     }
-    if same(name, b"acknowledge") {
+    if k == 5 {
         e.acknowledge = narrow(v);
         return e;
     }
     e
 }
 
-fn pack_field(p: Pack, name: &[u8]) -> u32 {
-    if same(name, b"fitted") {
-        return p.fitted as u32;
-    }
-    if same(name, b"place") {
-        return p.place.0;
-    }
-    if same(name, b"slot") {
-        return p.profile.slot as u32;
-    }
-    if same(name, b"general") {
-        return p.profile.general as u32;
-    }
-    if same(name, b"protected") {
-        return p.profile.protected as u32;
-    }
-    NO_FIELD
+fn pack_name(name: &[u8]) -> u8 {
+    index(b"fitted place slot general protected", name)
 }
 
-fn with_pack(p: Pack, name: &[u8], v: u32) -> Pack {
+fn pack_field(p: Pack, k: u8) -> u32 {
+    match k {
+        0 => p.fitted as u32,
+        1 => p.place.0,
+        2 => p.profile.slot as u32,
+        3 => p.profile.general as u32,
+        4 => p.profile.protected as u32,
+        _ => NO_FIELD,
+    }
+}
+
+fn with_pack(p: Pack, k: u8, v: u32) -> Pack {
     let mut e = p;
-    if same(name, b"fitted") {
+    if k == 0 {
         e.fitted = narrow(v);
         return e;
     }
-    if same(name, b"place") {
+    if k == 1 {
         let place = Place(v);
         e.place = place;
         return e;
     }
-    if same(name, b"slot") {
+    if k == 2 {
         let slot = narrow(v);
         e.profile.slot = slot;
         return e;
     }
-    if same(name, b"general") {
+    if k == 3 {
         let general = half(v);
         e.profile.general = general;
         return e;
     }
-    if same(name, b"protected") {
+    if k == 4 {
         let protected = narrow(v);
         e.profile.protected = protected;
         return e;
@@ -244,73 +231,68 @@ fn with_pack(p: Pack, name: &[u8], v: u32) -> Pack {
     e
 }
 
-fn line_field(l: Lines, name: &[u8]) -> u32 {
-    if same(name, b"select") {
-        return l.select as u32;
-    }
-    if same(name, b"heads") {
-        return l.heads.0 as u32;
-    }
-    if same(name, b"write") {
-        return l.writegate as u32;
-    }
-    if same(name, b"read") {
-        return l.readgate as u32;
-    }
-    if same(name, b"data") {
-        return l.command as u32;
-    }
-    if same(name, b"request") {
-        return l.request as u32;
-    }
-    NO_FIELD
+fn line_name(name: &[u8]) -> u8 {
+    index(b"select heads write read data request length", name)
 }
 
-fn with_line(l: Lines, name: &[u8], v: u32) -> Lines {
+fn line_field(l: Lines, k: u8) -> u32 {
+    match k {
+        0 => l.select as u32,
+        1 => l.heads.0 as u32,
+        2 => l.writegate as u32,
+        3 => l.readgate as u32,
+        4 => l.command as u32,
+        5 => l.request as u32,
+        _ => NO_FIELD,
+    }
+}
+
+fn with_line(l: Lines, k: u8, v: u32) -> Lines {
     let mut e = l;
-    if same(name, b"select") {
+    if k == 0 {
         e.select = narrow(v);
         return e;
     }
-    if same(name, b"heads") {
+    if k == 1 {
         let heads = Head(narrow(v));
         e.heads = heads;
         return e;
     }
-    if same(name, b"write") {
+    if k == 2 {
         e.writegate = narrow(v);
         return e;
     }
-    if same(name, b"read") {
+    if k == 3 {
         e.readgate = narrow(v);
         return e;
     }
-    if same(name, b"data") {
+    if k == 4 {
         e.command = narrow(v);
         return e;
     }
-    if same(name, b"request") {
+    if k == 5 {
         e.request = narrow(v);
         return e;
     }
     e
 }
 
-fn cable_field(c: Chain, name: &[u8]) -> u32 {
-    if same(name, b"length") {
+fn cable_field(c: Chain, k: u8) -> u32 {
+    if k == 6 {
         return c.length.0;
     }
-    line_field(c.lines, name)
+    let l = c.lines;
+    line_field(l, k)
 }
 
-fn with_cable(c: Chain, name: &[u8], v: u32) -> Chain {
+fn with_cable(c: Chain, k: u8, v: u32) -> Chain {
     let mut e = c;
-    if same(name, b"length") {
+    if k == 6 {
         let length = Place(v);
         e.length = length;
         return e;
     }
-    let lines = with_line(c.lines, name, v);
+    let lines = with_line(c.lines, k, v);
     e.lines = lines;
     e
 }
@@ -325,20 +307,23 @@ fn first(a: u32, b: u32) -> u32 {
 
 fn state_field(s: State, name: &[u8]) -> u32 {
     let b = s.body;
-    let inner = first(arm_field(b.arm, name), timers_field(b.timers, name));
-    first(first(inner, body_field(b, name)), transfer_field(s.transfer, name))
+    let arm = arm_field(b.arm, arm_name(name));
+    let timers = timers_field(b.timers, timer_name(name));
+    let body = body_field(b, body_name(name));
+    let transfer = transfer_field(s.transfer, transfer_name(name));
+    first(first(arm, timers), first(body, transfer))
 }
 
 fn with_state(s: State, name: &[u8], v: u32) -> State {
     let body = with_body(s.body, name, v);
-    let transfer = with_transfer(s.transfer, name, v);
+    let transfer = with_transfer(s.transfer, transfer_name(name), v);
     State { body, transfer }
 }
 
 // What a field holds.
 pub fn field(c: Chain, slot: u32, name: &[u8]) -> u32 {
     if slot < 1 {
-        return cable_field(c, name);
+        return cable_field(c, line_name(name));
     }
     if slot > 7 {
         return NO_FIELD;
@@ -346,13 +331,13 @@ pub fn field(c: Chain, slot: u32, name: &[u8]) -> u32 {
     let i = (slot - 1) as usize;
     let s = c.states[i];
     let p = c.packs[i];
-    first(state_field(s, name), pack_field(p, name))
+    first(state_field(s, name), pack_field(p, pack_name(name)))
 }
 
 // The record with another value in a field.
 pub fn with_field(c: Chain, slot: u32, name: &[u8], v: u32) -> Chain {
     if slot < 1 {
-        return with_cable(c, name, v);
+        return with_cable(c, line_name(name), v);
     }
     if slot > 7 {
         return c;
@@ -360,7 +345,7 @@ pub fn with_field(c: Chain, slot: u32, name: &[u8], v: u32) -> Chain {
     let i = (slot - 1) as usize;
     let mut e = c;
     let s = with_state(c.states[i], name, v);
-    let p = with_pack(c.packs[i], name, v);
+    let p = with_pack(c.packs[i], pack_name(name), v);
     e.states[i] = s;
     e.packs[i] = p;
     e

@@ -177,37 +177,9 @@ const FIT: u8 = 7;
 
 const AT: u8 = 8;
 
-const EVENT: u8 = 9;
-
+// What a line does, by its first word; a number is an event's kind.
 fn verb(line: &[u8]) -> u8 {
-    if words::is_at(line, 0, b"send") {
-        return SEND;
-    }
-    if words::is_at(line, 0, b"part") {
-        return PART;
-    }
-    if words::is_at(line, 0, b"take") {
-        return TAKE;
-    }
-    if words::is_at(line, 0, b"plain") {
-        return PLAIN;
-    }
-    if words::is_at(line, 0, b"set") {
-        return SET;
-    }
-    if words::is_at(line, 0, b"is") {
-        return IS;
-    }
-    if words::is_at(line, 0, b"lend") {
-        return LEND;
-    }
-    if words::is_at(line, 0, b"fit") {
-        return FIT;
-    }
-    if words::is_at(line, 0, b"at") {
-        return AT;
-    }
-    EVENT
+    words::index(b"send part take plain set is lend fit at", words::word(line, 0))
 }
 
 // A line that plays a word.
@@ -298,11 +270,11 @@ fn bench(r: Run, file: &mut [u8; ROOM], line: &[u8], what: u8) -> Run {
 fn played(r: Run, file: &mut [u8; ROOM], line: &[u8]) -> Run {
     let what = verb(line);
     match what {
-        EVENT => event(r, file, line),
+        SEND | PART | TAKE | PLAIN => word(r, file, line, what),
         SET | IS => record(r, line, what),
         LEND | FIT => bench(r, file, line, what),
         AT => medium(r, file, line),
-        _ => word(r, file, line, what),
+        _ => event(r, file, line),
     }
 }
 

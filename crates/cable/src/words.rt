@@ -121,3 +121,15 @@ pub fn number_at(line: &[u8], k: u8) -> Number {
 pub fn is_at(line: &[u8], k: u8, text: &[u8]) -> bool {
     check::same(word(line, k), text)
 }
+
+// Which word of a list a name is, counted from 0; past its end where it is none of them.
+pub fn index(list: &[u8], name: &[u8]) -> u8 {
+    let mut k: u8 = 0;
+    while k < 32 {
+        if is_at(list, k, name) {
+            return k;
+        }
+        k += 1;
+    }
+    k
+}
