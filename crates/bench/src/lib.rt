@@ -1,5 +1,6 @@
 // Chains to try things on: drives of several kinds, laid into a pack file and fitted.
 pub mod drives;
+pub mod plain;
 
 use board::Stepped;
 use chain::Chain;

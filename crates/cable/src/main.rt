@@ -1,7 +1,6 @@
 // Plays the cable sessions of the script on standard input, whose every line says what must come, worked out from document 01.
 // A session's title is printed with ok behind it, or with the lines that came otherwise; the totals follow.
 mod fields;
-mod plain;
 mod play;
 mod session;
 mod tally;

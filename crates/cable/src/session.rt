@@ -13,7 +13,6 @@
 //     at PLACE = value               the file holds this byte
 //     lend LENGTH                    so much of the file is lent
 use crate::fields;
-use crate::plain;
 use crate::play;
 use crate::play::Play;
 use crate::tally;
@@ -26,6 +25,7 @@ use crate::words::Number;
 use bench::ROOM;
 use bench::Told;
 use bench::drives;
+use bench::plain;
 use chain::fresh;
 
 // here: the differences of this session.
@@ -179,7 +179,10 @@ const AT: u8 = 8;
 
 // What a line does, by its first word; a number is an event's kind.
 fn verb(line: &[u8]) -> u8 {
-    words::index(b"send part take plain set is lend fit at", words::word(line, 0))
+    words::index(
+        b"send part take plain set is lend fit at",
+        words::word(line, 0),
+    )
 }
 
 // A line that plays a word.

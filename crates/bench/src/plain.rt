@@ -17,7 +17,9 @@ fn bits_of(told: Told) -> u32 {
     }
 }
 
-fn with_state(c: Chain, slot: u8, s: State) -> Chain {
+// The chain with another state in the selected slot.
+pub fn with_selected(c: Chain, s: State) -> Chain {
+    let slot = c.lines.select;
     if slot < 1 {
         return c;
     }
@@ -30,6 +32,7 @@ fn with_state(c: Chain, slot: u8, s: State) -> Chain {
     e
 }
 
+// The word at once.
 pub fn plain(c: Chain, word: u32) -> Answered {
     let slot = c.lines.select;
     let packs = c.packs;
@@ -39,7 +42,7 @@ pub fn plain(c: Chain, word: u32) -> Answered {
     let a = word::plain(p.profile, s, word);
     let told = a.told;
     Answered {
-        chain: with_state(c, slot, a.state),
+        chain: with_selected(c, a.state),
         response: bits_of(told),
     }
 }
