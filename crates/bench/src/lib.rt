@@ -1,6 +1,8 @@
-// Chains to try things on: drives of several kinds, laid into a pack file and fitted.
+// Chains to try things on: drives of several kinds, laid into a pack file and fitted; events and words played on their cable.
 pub mod drives;
 pub mod plain;
+pub mod play;
+pub mod tally;
 
 use board::Stepped;
 use chain::Chain;

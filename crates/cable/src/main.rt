@@ -1,13 +1,10 @@
 // Plays the cable sessions of the script on standard input, whose every line says what must come, worked out from document 01.
 // A session's title is printed with ok behind it, or with the lines that came otherwise; the totals follow.
-mod fields;
-mod play;
 mod session;
-mod tally;
-mod words;
 
 use bench::ROOM;
 use libc::STDIN_FILENO;
+use script::words;
 use session::Run;
 ghost use Prim.Native.Nat.{_≤_};
 ghost use lib.ListN.{length};

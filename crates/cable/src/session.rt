@@ -12,21 +12,21 @@
 //     is SLOT FIELD = value          the record holds this
 //     at PLACE = value               the file holds this byte
 //     lend LENGTH                    so much of the file is lent
-use crate::fields;
-use crate::play;
-use crate::play::Play;
-use crate::tally;
-use crate::tally::Tally;
-use crate::tally::one_more;
-use crate::tally::say;
-use crate::tally::say_number;
-use crate::words;
-use crate::words::Number;
 use bench::ROOM;
 use bench::Told;
 use bench::drives;
 use bench::plain;
+use bench::play;
+use bench::play::Play;
+use bench::tally;
+use bench::tally::Tally;
+use bench::tally::one_more;
+use bench::tally::say;
+use bench::tally::say_number;
 use chain::fresh;
+use script::fields;
+use script::words;
+use script::words::Number;
 
 // here: the differences of this session.
 pub struct Run {
@@ -34,129 +34,7 @@ pub struct Run {
     pub here: u32,
     pub differences: u32,
     pub sessions: u32,
-    pub fields: u32,
-}
-
-fn no_told() -> Told {
-    Told {
-        answer: 0,
-        value: 0,
-        sum: 0,
-    }
-}
-
-// No session yet, and no drive.
-pub fn start(file: &mut [u8; ROOM]) -> Run {
-    let play = Play {
-        bench: bench::fresh_chain(file, drives::NONE),
-        told: no_told(),
-        steady: true,
-        tally: Tally::none(),
-    };
-    Run {
-        play,
-        here: 0,
-        differences: 0,
-        sessions: 0,
-        fields: 0,
-    }
-}
-
-fn differs(r: Run, line: &[u8], why: &[u8]) -> Run {
-    say(b"\n  ");
-    say(line);
-    say(b"\n  ");
-    say(why);
-    let mut e = r;
-    e.here = one_more(r.here);
-    e.differences = one_more(r.differences);
-    e
-}
-
-fn misread(r: Run, line: &[u8]) -> Run {
-    differs(r, line, b"can't be read")
-}
-
-fn say_told(t: Told) {
-    say_number(t.answer as u32);
-    say_number(t.value as u32);
-    say_number(t.sum as u32);
-}
-
-fn came_otherwise(r: Run, line: &[u8]) -> Run {
-    if !r.play.steady {
-        return differs(r, line, b"not so within the word");
-    }
-    let e = differs(r, line, b"came");
-    say_told(e.play.told);
-    e
-}
-
-fn with_play(r: Run, play: Play) -> Run {
-    let mut e = r;
-    e.play = play;
-    e
-}
-
-fn says(n: Number, value: u8) -> bool {
-    n.ok & (n.n == value as u32)
-}
-
-// The three numbers behind = are what the last event came to.
-fn judged(r: Run, line: &[u8]) -> Run {
-    let told = r.play.told;
-    let good = r.play.steady
-        & words::is_at(line, 3, b"=")
-        & says(words::number_at(line, 4), told.answer)
-        & says(words::number_at(line, 5), told.value)
-        & says(words::number_at(line, 6), told.sum);
-    if good {
-        return r;
-    }
-    came_otherwise(r, line)
-}
-
-fn event(r: Run, file: &mut [u8; ROOM], line: &[u8]) -> Run {
-    let kind = words::number_at(line, 0);
-    let a = words::number_at(line, 1);
-    let b = words::number_at(line, 2);
-    if !(kind.ok & a.ok & b.ok) {
-        return misread(r, line);
-    }
-    let p = play::event(play::begun(r.play), file, kind.n, a.n, b.n);
-    judged(with_play(r, p), line)
-}
-
-fn with_parity(word: u32, parity: u32) -> u32 {
-    word % 65_536 * 2 + parity % 2
-}
-
-fn sent(r: Run, file: &mut [u8; ROOM], line: &[u8], word: u32, count: u32) -> Run {
-    let p = play::send(r.play, file, word, count);
-    judged(with_play(r, p), line)
-}
-
-fn taken(r: Run, file: &mut [u8; ROOM], line: &[u8], word: u32) -> Run {
-    let p = play::take(r.play, file, word);
-    judged(with_play(r, p), line)
-}
-
-// The response and the lines are what the numbers behind = say.
-fn plainly(r: Run, line: &[u8], word: u32) -> Run {
-    let a = plain::plain(r.play.bench.chain, word);
-    let chain = a.chain;
-    let p = play::with_chain(r.play, chain);
-    let response = words::number_at(line, 4);
-    let parity = words::number_at(line, 5);
-    let good = words::is_at(line, 3, b"=")
-        & (response.ok & parity.ok)
-        & (with_parity(response.n, parity.n) == a.response)
-        & says(words::number_at(line, 6), fresh::line_sum(chain));
-    let e = with_play(r, p);
-    if good {
-        return e;
-    }
-    differs(e, line, b"not so by the plain word rules")
+    pub lines: u32,
 }
 
 const SEND: u8 = 0;
@@ -185,40 +63,154 @@ fn verb(line: &[u8]) -> u8 {
     )
 }
 
+// No session yet, and no drive.
+pub fn start(file: &mut [u8; ROOM]) -> Run {
+    let told = Told {
+        answer: 0,
+        value: 0,
+        sum: 0,
+    };
+    let play = Play {
+        bench: bench::fresh_chain(file, drives::NONE),
+        told,
+        good: true,
+        tally: Tally::none(),
+    };
+    Run {
+        play,
+        here: 0,
+        differences: 0,
+        sessions: 0,
+        lines: 0,
+    }
+}
+
+// Reports a line that isn't as it says.
+fn amiss(line: &[u8], why: &[u8]) -> bool {
+    say(b"\n  ");
+    say(line);
+    say(b"\n  ");
+    say(why);
+    false
+}
+
+fn unread(line: &[u8]) -> bool {
+    amiss(line, b"can't be read")
+}
+
+fn says(n: Number, value: u8) -> bool {
+    n.ok & (n.n == value as u32)
+}
+
+fn says_told(line: &[u8], told: Told) -> bool {
+    words::is_at(line, 3, b"=")
+        & says(words::number_at(line, 4), told.answer)
+        & says(words::number_at(line, 5), told.value)
+        & says(words::number_at(line, 6), told.sum)
+}
+
+fn came(line: &[u8], told: Told) -> bool {
+    amiss(line, b"came");
+    say_number(told.answer as u32);
+    say_number(told.value as u32);
+    say_number(told.sum as u32);
+    false
+}
+
+// The three numbers behind = are what the last event came to, and what was before it is good.
+fn judged(line: &[u8], told: Told, good: bool) -> bool {
+    if !good {
+        return amiss(line, b"not so within the word");
+    }
+    if says_told(line, told) {
+        return true;
+    }
+    came(line, told)
+}
+
+fn held_to(line: &[u8], p: Play) -> Play {
+    play::found(p, judged(line, p.told, p.good))
+}
+
+fn event(p: Play, file: &mut [u8; ROOM], line: &[u8]) -> Play {
+    let kind = words::number_at(line, 0);
+    let a = words::number_at(line, 1);
+    let b = words::number_at(line, 2);
+    if !(kind.ok & a.ok & b.ok) {
+        return play::found(p, unread(line));
+    }
+    held_to(line, play::event(p, file, kind.n, a.n, b.n))
+}
+
+fn with_parity(word: u32, parity: u32) -> u32 {
+    word % 65_536 * 2 + parity % 2
+}
+
+// The response and the lines are what the three numbers behind = say.
+fn answers(line: &[u8], response: u32, sum: u8) -> bool {
+    let word = words::number_at(line, 4);
+    let parity = words::number_at(line, 5);
+    words::is_at(line, 3, b"=")
+        & (word.ok & parity.ok)
+        & (with_parity(word.n, parity.n) == response)
+        & says(words::number_at(line, 6), sum)
+}
+
+fn plainly(p: Play, line: &[u8], word: u32) -> Play {
+    let a = plain::plain(p.bench.chain, word);
+    let q = play::with_chain(p, a.chain);
+    if answers(line, a.response, fresh::line_sum(a.chain)) {
+        return q;
+    }
+    play::found(q, amiss(line, b"not so by the plain word rules"))
+}
+
 // A line that plays a word.
-fn word(r: Run, file: &mut [u8; ROOM], line: &[u8], what: u8) -> Run {
+fn word(p: Play, file: &mut [u8; ROOM], line: &[u8], what: u8) -> Play {
     let a = words::number_at(line, 1);
     let b = words::number_at(line, 2);
     if !(a.ok & b.ok) {
-        return misread(r, line);
+        return play::found(p, unread(line));
     }
     match what {
-        SEND => sent(r, file, line, with_parity(a.n, b.n), 17),
-        PART => sent(r, file, line, with_parity(b.n, 0), a.n % 17),
-        TAKE => taken(r, file, line, with_parity(a.n, b.n)),
-        _ => plainly(r, line, with_parity(a.n, b.n)),
+        SEND => held_to(line, play::send(p, file, with_parity(a.n, b.n), 17)),
+        PART => held_to(line, play::send(p, file, with_parity(b.n, 0), a.n % 17)),
+        TAKE => held_to(line, play::take(p, file, with_parity(a.n, b.n))),
+        _ => plainly(p, line, with_parity(a.n, b.n)),
     }
 }
 
-fn changed(r: Run, line: &[u8], slot: u32, v: u32) -> Run {
+fn changed(p: Play, line: &[u8], slot: u32, v: u32) -> Play {
     let name = words::word(line, 2);
-    let chain = fields::with_field(r.play.bench.chain, slot, name, v);
-    let e = with_play(r, play::with_chain(r.play, chain));
+    let chain = fields::with_field(p.bench.chain, slot, name, v);
+    let q = play::with_chain(p, chain);
     if fields::field(chain, slot, name) == v {
-        return e;
+        return q;
     }
-    misread(e, line)
+    play::found(q, unread(line))
 }
 
-fn compared(r: Run, line: &[u8], held: u32, v: u32) -> Run {
-    let mut e = r;
-    e.fields = one_more(r.fields);
+fn compared(line: &[u8], held: u32, v: u32) -> bool {
     if held == v {
-        return e;
+        return true;
     }
-    let d = differs(e, line, b"holds");
+    amiss(line, b"holds");
     say_number(held);
-    d
+    false
+}
+
+// A line about a field of the record.
+fn record(p: Play, line: &[u8], what: u8) -> Play {
+    let slot = words::number_at(line, 1);
+    let v = words::number_at(line, 4);
+    if !(slot.ok & v.ok & words::is_at(line, 3, b"=")) {
+        return play::found(p, unread(line));
+    }
+    if what == SET {
+        return changed(p, line, slot.n, v.n);
+    }
+    let held = fields::field(p.bench.chain, slot.n, words::word(line, 2));
+    play::found(p, compared(line, held, v.n))
 }
 
 fn wide(byte: u8) -> u32 {
@@ -233,60 +225,45 @@ fn byte_at(file: &[u8; ROOM], place: u32) -> u32 {
     wide(file[i])
 }
 
-// A line about a field of the record.
-fn record(r: Run, line: &[u8], what: u8) -> Run {
-    let slot = words::number_at(line, 1);
-    let v = words::number_at(line, 4);
-    if !(slot.ok & v.ok & words::is_at(line, 3, b"=")) {
-        return misread(r, line);
-    }
-    if what == SET {
-        return changed(r, line, slot.n, v.n);
-    }
-    let held = fields::field(r.play.bench.chain, slot.n, words::word(line, 2));
-    compared(r, line, held, v.n)
-}
-
 // A line about a byte of the file.
-fn medium(r: Run, file: &[u8; ROOM], line: &[u8]) -> Run {
+fn medium(file: &[u8; ROOM], line: &[u8]) -> bool {
     let place = words::number_at(line, 1);
     let v = words::number_at(line, 3);
     if !(place.ok & v.ok & words::is_at(line, 2, b"=")) {
-        return misread(r, line);
+        return unread(line);
     }
-    compared(r, line, byte_at(file, place.n), v.n)
+    compared(line, byte_at(file, place.n), v.n)
 }
 
 // A line about the file: another length of it, or a chain laid anew.
-fn bench(r: Run, file: &mut [u8; ROOM], line: &[u8], what: u8) -> Run {
+fn bench(p: Play, file: &mut [u8; ROOM], line: &[u8], what: u8) -> Play {
     let n = words::number_at(line, 1);
     if !n.ok {
-        return misread(r, line);
+        return play::found(p, unread(line));
     }
     if what == LEND {
-        return with_play(r, play::with_lent(r.play, n.n as usize));
+        return play::with_lent(p, n.n as usize);
     }
-    let fresh = bench::fresh_chain(file, (n.n % 256) as u8);
-    with_play(r, play::with_bench(r.play, fresh))
+    play::with_bench(p, bench::fresh_chain(file, (n.n % 256) as u8))
 }
 
-fn played(r: Run, file: &mut [u8; ROOM], line: &[u8]) -> Run {
+fn played(p: Play, file: &mut [u8; ROOM], line: &[u8]) -> Play {
     let what = verb(line);
     match what {
-        SEND | PART | TAKE | PLAIN => word(r, file, line, what),
-        SET | IS => record(r, line, what),
-        LEND | FIT => bench(r, file, line, what),
-        AT => medium(r, file, line),
-        _ => event(r, file, line),
+        SEND | PART | TAKE | PLAIN => word(p, file, line, what),
+        SET | IS => record(p, line, what),
+        LEND | FIT => bench(p, file, line, what),
+        AT => play::found(p, medium(file, line)),
+        _ => event(p, file, line),
     }
 }
 
 // Ends a session's line of the report.
-fn closed(r: Run) {
-    if r.sessions == 0 {
+fn closed(sessions: u32, here: u32) {
+    if sessions == 0 {
         return;
     }
-    if r.here == 0 {
+    if here == 0 {
         say(b": ok\n");
         return;
     }
@@ -295,13 +272,35 @@ fn closed(r: Run) {
 
 // A session has no chain until the script fits one.
 fn titled(r: Run, file: &mut [u8; ROOM], line: &[u8]) -> Run {
-    closed(r);
+    closed(r.sessions, r.here);
     say(line);
-    let fresh = bench::fresh_chain(file, drives::NONE);
-    let mut e = with_play(r, play::with_bench(r.play, fresh));
-    e.here = 0;
-    e.sessions = one_more(r.sessions);
-    e
+    let play = play::with_bench(r.play, bench::fresh_chain(file, drives::NONE));
+    Run {
+        play,
+        here: 0,
+        differences: r.differences,
+        sessions: one_more(r.sessions),
+        lines: r.lines,
+    }
+}
+
+fn one_if(n: u32, good: bool) -> u32 {
+    if good {
+        return n;
+    }
+    one_more(n)
+}
+
+// A line that plays something.
+fn on_with(r: Run, file: &mut [u8; ROOM], line: &[u8]) -> Run {
+    let play = played(play::found(r.play, true), file, line);
+    Run {
+        play,
+        here: one_if(r.here, play.good),
+        differences: one_if(r.differences, play.good),
+        sessions: r.sessions,
+        lines: one_more(r.lines),
+    }
 }
 
 pub fn line(r: Run, file: &mut [u8; ROOM], line: &[u8]) -> Run {
@@ -314,7 +313,7 @@ pub fn line(r: Run, file: &mut [u8; ROOM], line: &[u8]) -> Run {
     if line[0] == b'-' {
         return r;
     }
-    played(r, file, line)
+    on_with(r, file, line)
 }
 
 fn total(name: &[u8], n: u32) {
@@ -325,13 +324,10 @@ fn total(name: &[u8], n: u32) {
 
 // The totals.
 pub fn end(r: Run) {
-    closed(r);
+    closed(r.sessions, r.here);
     total(b"sessions", r.sessions);
+    total(b"lines", r.lines);
     let tally = r.play.tally;
-    let kinds = tally.kinds;
-    let answers = tally.answers;
-    tally::say_kinds(kinds);
-    tally::say_answers(answers);
-    total(b"fields", r.fields);
+    tally::say_all(tally);
     total(b"differences", r.differences);
 }

@@ -1,8 +1,8 @@
--- `cable::tally::say_answers` is safe and ends: it meets each answer once.
+-- `bench::tally::say_answers` is safe and ends: it meets each answer once.
 use Prim.Native.Nat.{_≤_, _-_}
 use borrow.Author.Needs.{needs}
-use Rattle.cable.proofs.tally.say_answers.Statement.{statement}
-use Rattle.cable.proofs.tally.say_answers.Tie as tie
+use Rattle.bench.proofs.tally.say_answers.Statement.{statement}
+use Rattle.bench.proofs.tally.say_answers.Tie as tie
 
 abbrev Inv-loop : tie.InvT-loop
 Inv-loop answers i₀ t5 i = i ≤ 26

@@ -1,9 +1,9 @@
--- `cable::words::start_of` meets its contract, and ends: the words left fall at each turn.
+-- `script::words::start_of` meets its contract, and ends: the words left fall at each turn.
 use Prim.Native.Nat.{_≤_}
 use borrow.Author.Needs.{needs}
 use lib.ListN.{length}
-use Rattle.cable.proofs.words.start_of.Statement.{statement}
-use Rattle.cable.proofs.words.start_of.Tie as tie
+use Rattle.script.proofs.words.start_of.Statement.{statement}
+use Rattle.script.proofs.words.start_of.Tie as tie
 
 abbrev Inv-loop : tie.InvT-loop
 Inv-loop line k at₀ left₀ at left = at ≤ length line

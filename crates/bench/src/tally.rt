@@ -71,18 +71,25 @@ fn say_each(name: &[u8], i: usize, n: u32) {
     say(b"\n");
 }
 
-pub fn say_kinds(kinds: [u32; KINDS]) {
+fn say_kinds(kinds: [u32; KINDS]) {
     for i in 0..9 {
         say_each(b"kind", i, kinds[i]);
     }
 }
 
 // The answers that came at all.
-pub fn say_answers(answers: [u32; ANSWERS]) {
+fn say_answers(answers: [u32; ANSWERS]) {
     for i in 0..26 {
         let n = answers[i];
         if n > 0 {
             say_each(b"answer", i, n);
         }
     }
+}
+
+pub fn say_all(t: Tally) {
+    let kinds = t.kinds;
+    let answers = t.answers;
+    say_kinds(kinds);
+    say_answers(answers);
 }

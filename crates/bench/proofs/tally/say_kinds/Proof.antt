@@ -1,8 +1,8 @@
--- `cable::tally::say_kinds` is safe and ends: it meets each kind once.
+-- `bench::tally::say_kinds` is safe and ends: it meets each kind once.
 use Prim.Native.Nat.{_≤_, _-_}
 use borrow.Author.Needs.{needs}
-use Rattle.cable.proofs.tally.say_kinds.Statement.{statement}
-use Rattle.cable.proofs.tally.say_kinds.Tie as tie
+use Rattle.bench.proofs.tally.say_kinds.Statement.{statement}
+use Rattle.bench.proofs.tally.say_kinds.Tie as tie
 
 abbrev Inv-loop : tie.InvT-loop
 Inv-loop kinds i₀ t4 i = i ≤ 9

@@ -1,17 +1,17 @@
 // Events on the cable, one by one or a word's together.
+use crate::Bench;
+use crate::ROOM;
+use crate::Told;
 use crate::tally;
 use crate::tally::Tally;
-use bench::Bench;
-use bench::ROOM;
-use bench::Told;
 use chain::Chain;
 use chain::fresh;
 
-// told: what the last event came to. steady: the events before it, within a word, came as they must.
+// told: what the last event came to. good: what came before it, within a word, came as it must.
 pub struct Play {
     pub bench: Bench,
     pub told: Told,
-    pub steady: bool,
+    pub good: bool,
     pub tally: Tally,
 }
 
@@ -33,14 +33,14 @@ pub fn with_lent(p: Play, lent: usize) -> Play {
 }
 
 pub fn event(p: Play, file: &mut [u8; ROOM], kind: u32, a: u32, b: u32) -> Play {
-    let m = bench::meet(p.bench, file, kind, a, b);
+    let m = crate::meet(p.bench, file, kind, a, b);
     let bench = m.bench;
     let told = m.told;
     let tally = tally::counted(p.tally, kind, told.answer);
     Play {
         bench,
         told,
-        steady: p.steady,
+        good: p.good,
         tally,
     }
 }
@@ -48,14 +48,14 @@ pub fn event(p: Play, file: &mut [u8; ROOM], kind: u32, a: u32, b: u32) -> Play 
 // An event within a word is taken and leaves these lines.
 fn kept(p: Play, sum: u32) -> Play {
     let mut q = p;
-    q.steady = p.steady & (p.told.answer == 0) & (p.told.value == 0) & (p.told.sum as u32 == sum);
+    q.good = p.good & (p.told.answer == 0) & (p.told.value == 0) & (p.told.sum as u32 == sum);
     q
 }
 
-// Nothing was played yet that could be amiss.
-pub fn begun(p: Play) -> Play {
+// What came is as it must be, or not.
+pub fn found(p: Play, good: bool) -> Play {
     let mut q = p;
-    q.steady = true;
+    q.good = good;
     q
 }
 
@@ -81,7 +81,7 @@ fn fallen(p: Play, file: &mut [u8; ROOM], open: u8, last: bool) -> Play {
 
 // The first bits of a word of seventeen.
 pub fn send(p: Play, file: &mut [u8; ROOM], word: u32, count: u32) -> Play {
-    let mut q = begun(p);
+    let mut q = found(p, true);
     let mut before = fresh::line_sum(p.bench.chain);
     let open = open_sum(before);
     let mut n = word;
@@ -104,7 +104,7 @@ fn put_out(p: Play, file: &mut [u8; ROOM], bit: u32, open: u8) -> Play {
 
 // A response of seventeen bits, which must be this one.
 pub fn take(p: Play, file: &mut [u8; ROOM], word: u32) -> Play {
-    let mut q = begun(p);
+    let mut q = found(p, true);
     let open = open_sum(fresh::line_sum(p.bench.chain));
     let mut n = word;
     let mut left: u32 = 17;

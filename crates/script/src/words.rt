@@ -1,5 +1,5 @@
 // The words of a script line, one space between, and the numbers that they say.
-ghost use Prim.Native.Nat.{_≤_};
+ghost use Prim.Native.Nat.{_≤_, _+_, _-_};
 ghost use lib.ListN.{length};
 
 // A number; not ok where the word says none.
@@ -8,11 +8,13 @@ pub struct Number {
     pub n: u32,
 }
 
-// Where a byte stands next, from a place on, or the end.
+// Where a byte stands next, from a place on, or the end. That is not before the place, unless the place is past the end.
 pub fn until(line: &[u8], from: usize, byte: u8) -> usize
-    requires { ⌜ from ≤ length (now line) ⌝ }
-    ensures { λ r. ⌜ (from ≤ r) × (r ≤ length (now (line .entry))) ⌝ }
+    ensures { λ r. ⌜ (r ≤ length (now (line .entry))) × (from ≤ r + (from - length (now (line .entry)))) ⌝ }
 {
+    if from > line.len() {
+        return line.len();
+    }
     let mut at = from;
     while at < line.len() {
         if line[at] == byte {

@@ -1,7 +1,7 @@
--- `cable::play::send` is safe and ends: the bits left fall at each turn.
+-- `bench::play::send` is safe and ends: the bits left fall at each turn.
 use borrow.Author.Needs.{needs}
-use Rattle.cable.proofs.play.send.Statement.{statement}
-use Rattle.cable.proofs.play.send.Tie as tie
+use Rattle.bench.proofs.play.send.Statement.{statement}
+use Rattle.bench.proofs.play.send.Tie as tie
 
 abbrev Inv-loop : tie.InvT-loop
 Inv-loop file₀ word count q₀ before₀ «open» n₀ left₀ file q before n left = Unit {0}
@@ -9,8 +9,8 @@ Inv-loop file₀ word count q₀ before₀ «open» n₀ left₀ file q before n
 abbrev μ-loop : tie.MeasureT-loop
 μ-loop file₀ word count q₀ before₀ «open» n₀ left₀ file q before n left = left
 
-begun-requires : tie.Need-begun-requires Inv-loop μ-loop
-begun-requires c κs = search needs
+found-requires : tie.Need-found-requires Inv-loop μ-loop
+found-requires c κs = search needs
 
 line-sum-requires : tie.Need-line-sum-requires Inv-loop μ-loop
 line-sum-requires c κs = search needs
@@ -48,7 +48,7 @@ send-spec =
     (tie.spec
     Inv-loop
     μ-loop
-    begun-requires
+    found-requires
     line-sum-requires
     open-sum-requires
     loop-holds

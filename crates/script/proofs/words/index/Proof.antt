@@ -1,8 +1,8 @@
--- `cable::words::index` is safe and ends: it meets each word of the list once.
+-- `script::words::index` is safe and ends: it meets each word of the list once.
 use Prim.Native.Nat.{_≤_, _-_}
 use borrow.Author.Needs.{needs}
-use Rattle.cable.proofs.words.index.Statement.{statement}
-use Rattle.cable.proofs.words.index.Tie as tie
+use Rattle.script.proofs.words.index.Statement.{statement}
+use Rattle.script.proofs.words.index.Tie as tie
 
 abbrev Inv-loop : tie.InvT-loop
 Inv-loop list name k₀ k = k ≤ 32

@@ -1,9 +1,9 @@
--- `cable::words::digits` is safe and ends: it meets each byte of the word once.
+-- `script::words::digits` is safe and ends: it meets each byte of the word once.
 use Prim.Native.Nat.{_≤_, _-_}
 use borrow.Author.Needs.{needs}
 use lib.ListN.{length}
-use Rattle.cable.proofs.words.digits.Statement.{statement}
-use Rattle.cable.proofs.words.digits.Tie as tie
+use Rattle.script.proofs.words.digits.Statement.{statement}
+use Rattle.script.proofs.words.digits.Tie as tie
 
 abbrev Inv-loop : tie.InvT-loop
 Inv-loop word hex n₀ i₀ n i = i ≤ length word

@@ -1,10 +1,10 @@
--- `cable::words::said` is safe: a word without its last byte is one shorter.
+-- `script::words::said` is safe: a word without its last byte is one shorter.
 use borrow.Author.Needs.{needs}
 use lib.Seq.{length-take-le}
 use mathlib.Core.Path.{sym}
 use native.Mathlib.Omega.{arith}
-use Rattle.cable.proofs.words.said.Statement.{statement}
-use Rattle.cable.proofs.words.said.Tie as tie
+use Rattle.script.proofs.words.said.Statement.{statement}
+use Rattle.script.proofs.words.said.Tie as tie
 
 returns : tie.Need-returns
 returns c = search needs
