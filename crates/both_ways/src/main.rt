@@ -30,6 +30,13 @@ struct Totals {
     differences: u32,
 }
 
+// An event by its three numbers.
+struct Three {
+    kind: u32,
+    a: u32,
+    b: u32,
+}
+
 struct Run {
     bench: Bench,
     seed: u64,
@@ -52,23 +59,30 @@ fn long_wait(b: Bench, file: &mut [u8; ROOM]) -> Bench {
     after
 }
 
-// What happens between words: time passes, a condition comes, the head lines move, or nothing.
-fn between(b: Bench, file: &mut [u8; ROOM], r: u64) -> Bench {
+fn numbers(kind: u32, a: u32, b: u32) -> Three {
+    Three { kind, a, b }
+}
+
+// What happens between words: a condition comes, the head lines move, or time passes, maybe none.
+fn some_event(r: u64) -> Three {
+    let more = r / 16;
     match r % 16 {
-        0 => event(
-            b,
-            file,
-            8,
-            below(r / 16, 7) as u32 + 1,
-            below(r / 256, 3) as u32 + 1,
-        ),
-        1 => event(b, file, 1, below(r / 16, 4) as u32, 0),
-        2 => event(b, file, 6, below(r / 16, 500) as u32, 0),
-        3 => event(b, file, 6, 10_000, 0),
-        4 | 5 | 6 | 7 | 8 => event(b, file, 6, 65_535, 0),
-        9 => long_wait(b, file),
-        _ => b,
+        0 => numbers(8, below(more, 7) as u32 + 1, below(more / 16, 3) as u32 + 1),
+        1 => numbers(1, below(more, 4) as u32, 0),
+        2 => numbers(6, below(more, 500) as u32, 0),
+        3 => numbers(6, 10_000, 0),
+        4 | 5 | 6 | 7 | 8 => numbers(6, 65_535, 0),
+        _ => numbers(6, 0, 0),
     }
+}
+
+// One time in sixteen, a wait that ends whatever a drive is busy with.
+fn between(b: Bench, file: &mut [u8; ROOM], r: u64) -> Bench {
+    if r % 16 == 9 {
+        return long_wait(b, file);
+    }
+    let e = some_event(r);
+    event(b, file, e.kind, e.a, e.b)
 }
 
 // Words of every code: those that do something more often than not, and any at all.

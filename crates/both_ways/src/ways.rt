@@ -38,109 +38,90 @@ fn waited(b: Bench, file: &mut [u8; ROOM], seed: u64, i: u32) -> Bench {
     pass(half, file, w.second)
 }
 
-fn rise(b: Bench, file: &mut [u8; ROOM]) -> Met {
-    bench::meet(b, file, 5, 1, 0)
+// A level put on the data line, and request's rise.
+fn risen(b: Bench, file: &mut [u8; ROOM], level: u32) -> Met {
+    let m = bench::meet(b, file, 4, level, 0);
+    bench::meet(m.bench, file, 5, 1, 0)
 }
 
-fn fall(b: Bench, file: &mut [u8; ROOM]) -> Met {
-    bench::meet(b, file, 5, 0, 0)
-}
-
-// The word's next bit put on the data line, and request's rise.
-fn bit_in(b: Bench, file: &mut [u8; ROOM], word: u32) -> Met {
-    let m = bench::meet(b, file, 4, word / 65_536 % 2, 0);
-    rise(m.bench, file)
-}
-
-// A bit behind the first: the wait before its rise and the one before its fall.
-fn bit_on(b: Bench, file: &mut [u8; ROOM], word: u32, seed: u64, k: u32) -> Met {
-    let low = waited(b, file, seed, k);
-    let up = bit_in(low, file, word);
-    let high = waited(up.bench, file, seed, std::num::wrapping_add_u32(k, 1));
-    fall(high, file)
-}
-
-// From the first bit's rise to the last one's fall.
-fn bits_on(b: Bench, file: &mut [u8; ROOM], word: u32, seed: u64) -> Met {
-    let high = waited(b, file, seed, 0);
-    let mut m = fall(high, file);
-    let mut n = word;
-    let mut k: u32 = 1;
-    while k < 33 {
-        n = n % 65_536 * 2;
-        m = bit_on(m.bench, file, n, seed, k);
-        k += 2;
-    }
-    m
-}
-
-struct Fetched {
+// The bits that the drive put out so far, and what request's last fall answered.
+struct Pulsed {
     bench: Bench,
     bits: u32,
+    answer: u8,
 }
 
-// A response bit: the data line while acknowledge is up.
-fn bit_out(f: Fetched, file: &mut [u8; ROOM], seed: u64, k: u32) -> Fetched {
-    let low = waited(f.bench, file, seed, k);
-    let up = rise(low, file);
+fn fallen(b: Bench, file: &mut [u8; ROOM], bits: u32) -> Pulsed {
+    let m = bench::meet(b, file, 5, 0, 0);
+    let bench = m.bench;
+    Pulsed {
+        bench,
+        bits,
+        answer: m.told.answer,
+    }
+}
+
+// The wait before request's rise, and the one before its fall.
+fn pulse(p: Pulsed, file: &mut [u8; ROOM], level: u32, seed: u64, k: u32) -> Pulsed {
+    let low = waited(p.bench, file, seed, k);
+    let up = risen(low, file, level);
     let high = waited(up.bench, file, seed, std::num::wrapping_add_u32(k, 1));
-    let m = fall(high, file);
-    let bench = m.bench;
     let bit = (up.told.sum / 8 % 2) as u32;
-    Fetched {
-        bench,
-        bits: f.bits % 65_536 * 2 + bit,
-    }
+    fallen(high, file, p.bits % 65_536 * 2 + bit)
 }
 
-fn fetch(bench: Bench, file: &mut [u8; ROOM], seed: u64) -> Fetched {
-    let mut f = Fetched { bench, bits: 0 };
-    let mut k: u32 = 33;
-    while k < 67 {
-        f = bit_out(f, file, seed, k);
-        k += 2;
+// Some pulses, with a word's bits behind its first on the data line.
+fn pulses(p: Pulsed, file: &mut [u8; ROOM], word: u32, seed: u64, from: u32, count: u32) -> Pulsed {
+    let mut q = p;
+    let mut n = word;
+    let mut k = from;
+    let mut left = count;
+    while left > 0 {
+        n = n % 65_536 * 2;
+        q = pulse(q, file, n / 65_536 % 2, seed, k);
+        k = std::num::wrapping_add_u32(k, 2);
+        left -= 1;
     }
-    f
+    q
 }
 
-fn without_response(m: Met) -> Sent {
-    let bench = m.bench;
-    Sent {
-        bench,
-        response: 0,
-        fault: m.told.answer == 5,
-    }
-}
-
-// The word is in; a response is fetched where one is open.
-fn answered(m: Met, file: &mut [u8; ROOM], seed: u64) -> Sent {
-    let s = selected(m.bench.chain);
+// From the first bit's rise on. A response is fetched where one is open after the seventeenth fall.
+fn acknowledged(b: Bench, file: &mut [u8; ROOM], word: u32, seed: u64) -> Sent {
+    let high = waited(b, file, seed, 0);
+    let first = fallen(high, file, 0);
+    let whole = pulses(first, file, word, seed, 1, 16);
+    let s = selected(whole.bench.chain);
+    let fault = whole.answer == 5;
     if s.transfer.way != Transfer::RESPONDING {
-        return without_response(m);
+        let bench = whole.bench;
+        return Sent {
+            bench,
+            response: 0,
+            fault,
+        };
     }
-    let f = fetch(m.bench, file, seed);
-    let bench = f.bench;
+    let told = pulses(whole, file, 0, seed, 33, 17);
+    let bench = told.bench;
     Sent {
         bench,
-        response: f.bits,
-        fault: m.told.answer == 5,
+        response: told.bits,
+        fault,
     }
 }
 
 // By bits. Where acknowledge doesn't rise, the host lowers request at once and ends.
 pub fn by_bits(b: Bench, file: &mut [u8; ROOM], word: u32, seed: u64) -> Sent {
-    let up = bit_in(b, file, word);
-    if up.told.sum / 4 % 2 == 0 {
-        let m = fall(up.bench, file);
-        let bench = m.bench;
-        return Sent {
-            bench,
-            response: 0,
-            fault: up.told.answer == 5,
-        };
+    let up = risen(b, file, word / 65_536 % 2);
+    if up.told.sum / 4 % 2 == 1 {
+        return acknowledged(up.bench, file, word, seed);
     }
-    let m = bits_on(up.bench, file, word, seed);
-    answered(m, file, seed)
+    let down = fallen(up.bench, file, 0);
+    let bench = down.bench;
+    Sent {
+        bench,
+        response: 0,
+        fault: up.told.answer == 5,
+    }
 }
 
 fn all_waited(b: Bench, file: &mut [u8; ROOM], seed: u64, count: u32) -> Bench {
