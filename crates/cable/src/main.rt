@@ -6,8 +6,6 @@ use bench::ROOM;
 use libc::STDIN_FILENO;
 use script::words;
 use session::Run;
-ghost use Prim.Native.Nat.{_≤_};
-ghost use lib.ListN.{length};
 
 // The longest script; of a longer one the end is missing, and the totals show it.
 const SCRIPT: usize = 131_072;
