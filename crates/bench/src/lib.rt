@@ -1,0 +1,104 @@
+// Chains to try things on: drives of several kinds, laid into a pack file and fitted; events and words played on their cable.
+pub mod drives;
+pub mod plain;
+pub mod play;
+pub mod tally;
+
+use board::Stepped;
+use chain::Chain;
+use chain::fresh;
+use pack::lay;
+use trailer::Profile;
+ghost use Prim.Native.Nat.{_≤_};
+ghost use lib.ListN.{length};
+
+// Room for the longest chain's file, and more.
+pub const ROOM: usize = 131_072;
+
+// A chain, and how much of the room is lent to it as its file.
+pub struct Bench {
+    pub chain: Chain,
+    pub lent: usize,
+}
+
+// What an event came to: its answer, the value, and then the lines as a sum.
+pub struct Told {
+    pub answer: u8,
+    pub value: u8,
+    pub sum: u8,
+}
+
+pub struct Met {
+    pub bench: Bench,
+    pub told: Told,
+}
+
+fn lay(file: &mut [u8], at: usize, p: Profile)
+    requires { ⌜ at ≤ length (now file) ⌝ }
+{
+    lay::lay(p, &mut file[at..]);
+}
+
+// Lays a pack at a place, and gives the place behind it.
+fn lay_behind(file: &mut [u8; ROOM], at: usize, p: Profile) -> usize {
+    if at > ROOM {
+        return ROOM;
+    }
+    lay(file, at, p);
+    let shape = p.shape;
+    at + trailer::medium(shape) + Profile::TRAILER
+}
+
+fn lay_slot(file: &mut [u8; ROOM], at: usize, which: u8, slot: u8) -> usize {
+    if drives::is_fitted(which, slot) {
+        return lay_behind(file, at, drives::profile(which, slot));
+    }
+    at
+}
+
+// Lays the packs of a chain, slot after slot, and gives the file's length.
+fn lay_all(file: &mut [u8; ROOM], which: u8) -> usize {
+    let mut at = 0;
+    let mut slot: u8 = 1;
+    while slot < 8 {
+        at = lay_slot(file, at, which, slot);
+        slot += 1;
+    }
+    at
+}
+
+fn fit(file: &[u8], n: usize) -> Chain {
+    if n > file.len() {
+        return fresh::fit(file).chain;
+    }
+    fresh::fit(&file[..n]).chain
+}
+
+// One of the chains that are here, fresh, its file laid anew.
+pub fn fresh_chain(file: &mut [u8; ROOM], which: u8) -> Bench {
+    let lent = lay_all(file, which);
+    let chain = fit(file, lent);
+    Bench { chain, lent }
+}
+
+fn step(c: Chain, file: &mut [u8], n: usize, kind: u32, a: u32, b: u32) -> Stepped {
+    if n > file.len() {
+        return board::step(c, file, kind, a, b);
+    }
+    board::step(c, &mut file[..n], kind, a, b)
+}
+
+// An event on the cable.
+pub fn meet(bench: Bench, file: &mut [u8; ROOM], kind: u32, a: u32, b: u32) -> Met {
+    let lent = bench.lent;
+    let s = step(bench.chain, file, lent, kind, a, b);
+    let chain = s.chain;
+    let answer = s.answer;
+    let told = Told {
+        answer: event::number(answer),
+        value: event::value(answer),
+        sum: fresh::line_sum(chain),
+    };
+    let after = Bench { chain, lent };
+    Met { bench: after, told }
+}
