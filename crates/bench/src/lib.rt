@@ -5,9 +5,9 @@ pub mod play;
 pub mod tally;
 
 use board::Stepped;
-use chain::Chain;
 use chain::fresh;
 use pack::lay;
+use record::Chain;
 use trailer::Profile;
 ghost use Prim.Native.Nat.{_≤_};
 ghost use lib.ListN.{length};

@@ -1,7 +1,7 @@
 // A word handed to the plain word rules, on the selected drive's state.
-use chain::Chain;
-use chain::record;
 use drive::State;
+use record::Chain;
+use record::slots;
 use word::Told;
 
 pub struct Answered {
@@ -37,8 +37,8 @@ pub fn plain(c: Chain, word: u32) -> Answered {
     let slot = c.lines.select;
     let packs = c.packs;
     let states = c.states;
-    let p = record::pack_in(packs, slot);
-    let s = record::state_in(states, slot);
+    let p = slots::pack_in(packs, slot);
+    let s = slots::state_in(states, slot);
     let a = word::plain(p.profile, s, word);
     let told = a.told;
     Answered {

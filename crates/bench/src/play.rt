@@ -4,8 +4,8 @@ use crate::ROOM;
 use crate::Told;
 use crate::tally;
 use crate::tally::Tally;
-use chain::Chain;
 use chain::fresh;
+use record::Chain;
 
 // told: what the last event came to. good: what came before it, within a word, came as it must.
 pub struct Play {

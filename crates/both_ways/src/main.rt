@@ -8,13 +8,13 @@ use bench::Bench;
 use bench::ROOM;
 use bench::drives;
 use bench::plain;
-use chain::Chain;
 use drive::Body;
 use drive::Latched;
 use drive::State;
 use libc::STDOUT_FILENO;
 use random::below;
 use random::next;
+use record::Chain;
 use ways::Sent;
 
 const WORDS: u32 = 3000;

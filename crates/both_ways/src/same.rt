@@ -1,10 +1,10 @@
 // Whether two records are the same but for the command data line's level.
-use chain::Chain;
 use drive::Arm;
 use drive::Body;
 use drive::State;
 use drive::Timers;
 use handshake::Transfer;
+use record::Chain;
 use unit::Lines;
 
 fn same_arm(a: Arm, b: Arm) -> bool {

@@ -4,12 +4,12 @@ use bench::Bench;
 use bench::Met;
 use bench::ROOM;
 use bench::plain;
-use chain::Chain;
-use chain::record;
 use counts::Micros;
 use drive::State;
 use drive::status;
 use handshake::Transfer;
+use record::Chain;
+use record::slots;
 
 // response: seventeen bits, 0 where there is none. fault: whether the cable answered 5 to the word.
 pub struct Sent {
@@ -20,7 +20,7 @@ pub struct Sent {
 
 pub fn selected(c: Chain) -> State {
     let states = c.states;
-    record::state_in(states, c.lines.select)
+    slots::state_in(states, c.lines.select)
 }
 
 fn pass(b: Bench, file: &mut [u8; ROOM], us: Micros) -> Bench {

@@ -1,6 +1,5 @@
 // The record's fields by their names: those of a slot, and in slot 0 those of the cable.
 use crate::words::index;
-use chain::Chain;
 use counts::Cylinder;
 use counts::Head;
 use counts::Micros;
@@ -13,6 +12,7 @@ use drive::State;
 use drive::Timers;
 use handshake::Transfer;
 use pack::Pack;
+use record::Chain;
 use unit::Lines;
 
 // What a name says that no field has.
