@@ -1,3 +1,4 @@
+pub mod Empty
 pub mod Leaves
 mod Lend
 mod LendWord
