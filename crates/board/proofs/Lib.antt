@@ -1,1 +1,2 @@
+pub mod Empty
 pub mod Leaves
