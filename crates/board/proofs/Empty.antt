@@ -4,9 +4,9 @@ use mathlib.Core.Bool.{true}
 use mathlib.Core.List.{[]}
 use Rattle.pack.specs.Packs.{noPacks}
 use Rattle.pack.specs.Read.{readAll, readBack}
-use Rattle.chain.specs.declared.Chain.{Chain}
+use Rattle.record.specs.declared.Chain.{Chain}
 use Rattle.chain.specs.Fresh.{lowLines, blankStates, freshSlot, endOf, fitOf}
-use Rattle.chain.specs.Sound.{placedOf, driveB, soundB}
+use Rattle.soundness.specs.Sound.{placedOf, driveB, soundB}
 
 -- every field 0
 abbrev pub emptyChain : Chain

@@ -191,7 +191,7 @@ module _ (w : Sending) (d : Lent) (fit : InTime w) (r : Resting (d .chain)) wher
       start : Wired Body
       start = alone.rests (driveOf c₀ .body) (c₀ .lines .command) 0
 
-  -- "A drive not complete at the first rise refuses both ways alike"
+  -- a drive not complete at the first rise refuses both ways alike
   refused-alike : calmB body₀ ≡ false → lent (alone.refused w l₀ (latchBit 6 body₀)) ≡ refused w d
   refused-alike q = λ i. record {
     now = ended c₀ (d .file) r t₀ n₀ (levelOf l₀ (w .first .low)) (latchBit 6 body₀) (refuses c₀ (d .file) r t₀ n₀ q) i;

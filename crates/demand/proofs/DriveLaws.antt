@@ -15,7 +15,7 @@ use Rattle.word.specs.Rules.{doneOf, carryOf}
 use Rattle.word.proofs.Laws.{told-calm}
 use Rattle.event.specs.Answer.{numberOf}
 use Rattle.decision.specs.Decision.{outcomeAnswer}
-use Rattle.keeps.proofs.Time.{calm-stays, body-twice, body-zero, latch-later}
+use Rattle.keeps.proofs.Time.{calm-stays, body-twice, body-zero}
 use Rattle.exchange.proofs.Laws.{Laws}
 use Rattle.demand.specs.Drive.{toldOf, faultB, drive}
 
@@ -28,7 +28,6 @@ drive-laws p = record {
   pass-zero = body-zero;
   pass-pass = λ s t b. body-twice (record { 0 = s }) (record { 0 = t }) b;
   pass-calm = λ t b. calm-stays (record { 0 = t }) b;
-  pass-fault = λ t b. latch-later (record { 0 = t }) 64 b;
   told-calm = λ n r b c h. told-calm p b n r c (word-told (carryOf p b n .told) r h);
 }
 

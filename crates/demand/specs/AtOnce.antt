@@ -26,7 +26,7 @@ use Rattle.exchange.specs.Waits.{levelOf, sentLevel, fetchLevel, wordOf, bitsOf
 use Rattle.exchange.specs.AtOnce.{zeros}
 use Rattle.demand.specs.Decided.{Lent, driveOf}
 
--- "any sound chain with a fitted drive selected, both gates off, request low, no transfer open in it"
+-- a sound chain with a fitted drive selected, both gates off, request low, and no transfer open
 pub record Resting (c : Chain) : Type 0 where
   pub sound : soundB c ≡ true
   pub selected : lookOf c .on ≡ true
@@ -52,7 +52,7 @@ given n level c = record {
   length = c .length;
 }
 
--- the 17th fall's answer: "a fault rule applied", or taken
+-- the 17th fall's answer: "5 a fault rule applied", else "0 taken"
 abbrev pub fallAnswer : ℕ → Chain → ℕ
 fallAnswer n c = numberOf (outcomeAnswer (carryOf (lookOf c .profile) (driveOf c .body) n .outcome))
 

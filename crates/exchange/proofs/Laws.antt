@@ -9,5 +9,4 @@ pub record Laws {B : Type 0} (R : Rules B) : Type 0 where
   pub pass-zero : (b : B) → R .pass 0 b ≡ b
   pub pass-pass : (s t : ℕ) (b : B) → R .pass t (R .pass s b) ≡ R .pass (s + t) b
   pub pass-calm : (t : ℕ) (b : B) → R .calm b ≡ true → R .pass t b ≡ b
-  pub pass-fault : (t : ℕ) (b : B) → R .pass t (R .fault b) ≡ R .fault (R .pass t b)
   pub told-calm : (n r : ℕ) (b : B) → R .calm b ≡ true → R .carry n b .told ≡ some r → R .calm (R .carry n b .body) ≡ true

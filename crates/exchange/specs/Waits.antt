@@ -65,7 +65,7 @@ abbrev pub fetchCount : List Gap → ℕ
 fetchCount [] = 0
 fetchCount (g ∷ gs) = length (g .low) + 1 + length (g .early) + length (g .late) + 1 + fetchCount gs
 
--- "each stretch at most 10,000 microseconds in sum"
+-- not "More than 10,000 µs since its last request edge": each stretch in sum
 abbrev pub BitsFit : List Bit → Type 0
 BitsFit [] = Unit
 BitsFit (x ∷ xs) = (timeOf (x .low) ≤ patience) × (timeOf (x .up) ≤ patience) × BitsFit xs

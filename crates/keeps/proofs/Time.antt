@@ -110,7 +110,7 @@ body-twice a b d =
     let head : d .timers .head .0 - a .0 - b .0 ≡ d .timers .head .0 - (a .0 + b .0) = omega arith in
     rw (motor-twice (d .motor) (d .timers .busy) a b, busy, head)
 
-pub latch-later : (us : Micros) (value : ℕ) (d : Body) → passBody us (latchOf value d) ≡ latchOf value (passBody us d)
+latch-later : (us : Micros) (value : ℕ) (d : Body) → passBody us (latchOf value d) ≡ latchOf value (passBody us d)
 unfolding passBody latchOf
 latch-later us value d = refl
 

@@ -29,6 +29,7 @@ use Rattle.record.specs.declared.Chain.{Chain}
 use Rattle.decision.specs.declared.Decision.{Decision}
 use Rattle.decision.specs.declared.Seen.{Seen}
 use Rattle.record.specs.Record.{slotB, slotState, lookOf}
+use Rattle.chain.specs.Levels.{linesAfter, ruleOf}
 use Rattle.decision.specs.Decision.{outcomeAnswer}
 use Rattle.decision.specs.Deeds.{saidOf, fileAfter}
 use Rattle.kinds.specs.Select.{eitherAnswer}
@@ -40,10 +41,8 @@ use Rattle.soundness.specs.Sound.{soundB}
 use Rattle.soundness.proofs.Facts.{cell-in-file}
 use Rattle.judge.specs.Judge.{allowedOf, judgedOf}
 use Rattle.board.specs.Step.{stepOf, stepFile}
-use Rattle.laws.specs.Levels.{linesAfter}
-use Rattle.laws.specs.Applies.{ruleOf}
 use Rattle.laws.specs.Column.{Leaves}
-use Rattle.laws.proofs.Walk.{Cases, walk}
+use Rattle.chain.proofs.Walk.{Cases, walk}
 use Rattle.laws.proofs.Outcomes.{Unlatched, write-unlatched, read-unlatched, met-acts, left-acts, pass-acts, rises-acts, falls-acts, left-done}
 
 never : _≡_ {A = ℕ} 0 1 → ⊥

@@ -37,6 +37,7 @@ use Rattle.decision.specs.declared.Decision.{Decision}
 use Rattle.decision.specs.declared.Seen.{Seen}
 use Rattle.record.specs.Record.{slotPack, slotState, lookOf}
 use Rattle.decision.specs.Decision.{fittedB}
+use Rattle.chain.specs.Levels.{linesAfter, movesB, ruleOf, askedB}
 use Rattle.decision.specs.Decision.{outcomeAnswer}
 use Rattle.decision.specs.Deeds.{saidOf}
 use Rattle.kinds.specs.Select.{eitherAnswer}
@@ -46,9 +47,8 @@ use Rattle.soundness.specs.Sound.{soundB}
 use Rattle.soundness.proofs.Facts.{state-there}
 use Rattle.judge.specs.Judge.{allowedOf, judgedOf}
 use Rattle.board.specs.Step.{stepOf}
-use Rattle.laws.specs.Levels.{linesAfter, movesB}
-use Rattle.laws.specs.Applies.{ruleOf, ifAny, timeMeets, meets, faultB, inhibitedB, askedB, unselectedB, firstBy, firstApplies}
-use Rattle.laws.proofs.Walk.{lineB, Cases, walk, enteredOf}
+use Rattle.laws.specs.Applies.{ifAny, timeMeets, meets, faultB, inhibitedB, unselectedB, firstBy, firstApplies}
+use Rattle.chain.proofs.Walk.{lineB, Cases, walk, enteredOf}
 use Rattle.laws.proofs.Outcomes.{left-acts, pass-acts}
 use Rattle.laws.proofs.Drives.{slot-sound, is-slot, listed, slot-room, state-in, fitted-in}
 

@@ -1,5 +1,5 @@
 -- The chain of a file is sound: of one that reads whole, with the file's length; of one that is refused, empty.
-use mathlib.Core.Path.{_≡_, refl, sym, ap, _∙_}
+use mathlib.Core.Path.{_≡_, refl, ap, _∙_}
 use mathlib.Core.Bool.{Bool, true, false, not}
 use mathlib.Core.List.{List, [], _∷_}
 use Prim.Native.Nat.{ℕ, zero, suc, _+_, _-_, _≤_, _<_}
@@ -30,14 +30,11 @@ use Rattle.pack.proofs.ReadLaid.{pack-length}
 use Rattle.pack.proofs.LaidRead.{Made, file-read}
 use Rattle.drive.specs.declared.State.{State}
 use Rattle.drive.specs.State.{freshOf}
-use Rattle.event.specs.declared.Event.{Event}
 use Rattle.unit.specs.Sound as unit
 use Rattle.keeps.proofs.Keeps.{fresh-sound}
 use Rattle.record.specs.declared.Chain.{Chain}
 use Rattle.chain.specs.Fresh.{lowLines, freshSlot, blankStates, endOf, fitOf}
-use Rattle.chain.specs.Decide.{decideOf}
 use Rattle.soundness.specs.Sound.{placedOf, placesB, driveB, soundB}
-use Rattle.judge.specs.Judge.{allowedOf}
 use Rattle.soundness.proofs.Facts.{guarded, placed-at}
 
 never : _≡_ {A = ℕ} 0 1 → ⊥
@@ -233,9 +230,3 @@ fitted-sound file small = by (readAll file .answer) refl
     by : (a : Answer) → readAll file .answer ≡ a → soundB (fitOf file .chain) ≡ true
     by Whole e = whole-sound file small e
     by (Refused why at) e = rw (refused-empty file (λ w. never (cc))) empty-sound
-
--- so an event on it is answered by the rules: neither 22 nor 23 stands in front of them
-pub fitted-goes : (file : List ℕ) → Bytes file → readAll file .answer ≡ Whole → (e : Event)
-    → allowedOf (fitOf file .chain) (length file) e ≡ decideOf (fitOf file .chain) e
-unfolding allowedOf
-fitted-goes file small w e = rw (whole-sound file small w, eq-eqb _ _ (sym (fitted-length file small w)))

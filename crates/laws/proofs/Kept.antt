@@ -33,18 +33,18 @@ use Rattle.record.specs.declared.Chain.{Chain}
 use Rattle.decision.specs.declared.Decision.{Decision}
 use Rattle.record.specs.Record.{slotPack, slotState, lookOf}
 use Rattle.decision.specs.Decision.{fittedB}
-use Rattle.decision.specs.Decision.{sayOf, doneOf}
+use Rattle.chain.specs.Levels.{linesAfter, movesB, ruleOf}
+use Rattle.decision.specs.Decision.{doneOf}
 use Rattle.kinds.specs.Signals.{with-select, with-writegate, with-readgate, with-command, with-request}
 use Rattle.kinds.specs.Passing.{passOf}
 use Rattle.chain.specs.Decide.{decideOf}
 use Rattle.record.specs.Apply.{putOf, passSlot, changedOf, applied}
 use Rattle.soundness.specs.Sound.{soundB}
 use Rattle.soundness.proofs.Facts.{sound, slot-of}
+use Rattle.decision.specs.Decision.{sayOf}
 use Rattle.judge.specs.Judge.{allowedOf, decodedOf, judgedOf}
 use Rattle.board.specs.Step.{stepOf}
-use Rattle.laws.specs.Levels.{linesAfter, movesB}
-use Rattle.laws.specs.Applies.{ruleOf}
-use Rattle.laws.proofs.Walk.{Cases, walk, enteredOf}
+use Rattle.chain.proofs.Walk.{Cases, walk, enteredOf}
 use Rattle.laws.proofs.Drives.{put-same, put-other, put-long, enough, slot-valid, slot-room, slot-sound, slot-mapped, map-long, slots-sound}
 use Rattle.laws.proofs.Ranges.{InRange, decoded-range, lines-kept}
 

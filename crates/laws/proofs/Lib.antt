@@ -1,5 +1,4 @@
 pub mod Fitted
-pub mod Walk
 pub mod Outcomes
 pub mod Column
 pub mod Drives
@@ -7,3 +6,4 @@ pub mod Ranges
 pub mod Kept
 pub mod Run
 pub mod First
+pub mod Answered

@@ -14,7 +14,7 @@ use Rattle.event.specs.Operands.{isPosition, isByte, isSlot, isCondition, stray
 use Rattle.event.specs.Decode.{ranged, lineOf, rowOf, decodeOf}
 use Rattle.unit.specs.declared.Lines.{Lines}
 use Rattle.unit.specs.Sound.{lineTests, linesB}
-use Rattle.laws.specs.Levels.{linesAfter}
+use Rattle.chain.specs.Levels.{linesAfter}
 
 -- "select code ≤ 7", head lines 0..15, levels 0/1
 abbrev pub InRange : Event → Type 0

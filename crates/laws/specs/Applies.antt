@@ -9,32 +9,14 @@ use Rattle.pack.specs.declared.Pack.{Pack}
 use Rattle.drive.specs.declared.State.{State}
 use Rattle.drive.specs.declared.Outcome.{Outcome}
 use Rattle.drive.specs.declared.Outcome.the-variants.{Done, Inhibited, Fault}
-use Rattle.drive.specs.declared.Ruled.{Ruled}
-use Rattle.drive.specs.Gates.{writeRises, readRises, writeFalls, readFalls}
 use Rattle.drive.specs.Heads.{metOf, leftOf}
 use Rattle.drive.specs.Time as time
 use Rattle.event.specs.declared.Event.{Event}
 use Rattle.event.specs.declared.Event.the-variants.{Select, Heads, WriteGate, ReadGate, Data, Request, Pass, Cell, Condition}
-use Rattle.unit.specs.declared.Lines.{Lines}
-use Rattle.unit.specs.Request.{requestRises, requestFalls}
 use Rattle.record.specs.declared.Chain.{Chain}
-use Rattle.decision.specs.declared.Seen.{Seen}
 use Rattle.record.specs.Record.{slotPack, slotState, lookOf}
 use Rattle.decision.specs.Decision.{fittedB}
-use Rattle.decision.specs.Decision.{doneOf}
-use Rattle.laws.specs.Levels.{linesAfter, movesB}
-
--- the rule that the selected drive meets where a line of its moves
-abbrev pub ruleOf : Seen → Lines → Event → Ruled
-ruleOf d l (Heads h) = metOf (d .profile) h (d .state)
-ruleOf d l (WriteGate level) = if eqb level 1 then writeRises (d .profile) (l .readgate) (d .state) else doneOf (writeFalls (d .state))
-ruleOf d l (ReadGate level) = if eqb level 1 then readRises (d .profile) (l .writegate) (d .state) else doneOf (readFalls (d .state))
-ruleOf d l (Request level) = if eqb level 1 then requestRises (d .profile) l (d .state) else requestFalls (d .profile) (d .state)
-ruleOf d l (Data level) = doneOf (d .state)
-ruleOf d l (Select slot) = doneOf (d .state)
-ruleOf d l (Pass us) = doneOf (d .state)
-ruleOf d l (Cell position byte) = doneOf (d .state)
-ruleOf d l (Condition slot which) = doneOf (d .state)
+use Rattle.chain.specs.Levels.{linesAfter, movesB, ruleOf, askedB}
 
 abbrev pub ifAny : Bool → Outcome → List Outcome
 ifAny there o = if there then o ∷ [] else []
@@ -44,6 +26,10 @@ abbrev pub selectMeets : Chain → ℕ → List Outcome
 selectMeets c slot =
     ifAny (lookOf c .on) (leftOf (lookOf c .state) .outcome)
     ++ ifAny (fittedB (slotPack (c .packs) slot)) (metOf (slotPack (c .packs) slot .profile) (c .lines .heads) (slotState (c .states) slot) .outcome)
+
+-- the selected drive, where a line moves
+abbrev pub signalMeets : Chain → Event → List Outcome
+signalMeets c e = ifAny (lookOf c .on && movesB e (c .lines)) (ruleOf (lookOf c) (c .lines) e .outcome)
 
 -- "Microseconds passing .. every drive": each that is fitted
 abbrev pub timeMeets : Micros → List Pack → List State → List Outcome
@@ -58,11 +44,11 @@ idleB s = not (eqb (s .body .writing) 1) && not (eqb (s .body .reading) 1)
 -- what comes of the rules that the drives of a chain meet in an event
 abbrev pub meets : Chain → Event → List Outcome
 meets c (Select slot) = if movesB (Select slot) (c .lines) then selectMeets c slot else []
-meets c (Heads h) = ifAny (lookOf c .on && movesB (Heads h) (c .lines)) (ruleOf (lookOf c) (c .lines) (Heads h) .outcome)
-meets c (WriteGate level) = ifAny (lookOf c .on && movesB (WriteGate level) (c .lines)) (ruleOf (lookOf c) (c .lines) (WriteGate level) .outcome)
-meets c (ReadGate level) = ifAny (lookOf c .on && movesB (ReadGate level) (c .lines)) (ruleOf (lookOf c) (c .lines) (ReadGate level) .outcome)
+meets c (Heads h) = signalMeets c (Heads h)
+meets c (WriteGate level) = signalMeets c (WriteGate level)
+meets c (ReadGate level) = signalMeets c (ReadGate level)
 meets c (Data level) = []
-meets c (Request level) = ifAny (lookOf c .on && movesB (Request level) (c .lines)) (ruleOf (lookOf c) (c .lines) (Request level) .outcome)
+meets c (Request level) = signalMeets c (Request level)
 meets c (Pass us) = timeMeets us (c .packs) (c .states)
 meets c (Cell position byte) = ifAny (lookOf c .on && idleB (lookOf c .state)) Inhibited
 meets c (Condition slot which) = []
@@ -80,18 +66,6 @@ inhibitedB [] = false
 inhibitedB (Inhibited ∷ rest) = true
 inhibitedB (Done ∷ rest) = inhibitedB rest
 inhibitedB (Fault ∷ rest) = inhibitedB rest
-
--- "kinds 0 to 5 or 7"
-abbrev pub askedB : Event → Bool
-askedB (Select slot) = true
-askedB (Heads h) = true
-askedB (WriteGate level) = true
-askedB (ReadGate level) = true
-askedB (Data level) = true
-askedB (Request level) = true
-askedB (Pass us) = false
-askedB (Cell position byte) = true
-askedB (Condition slot which) = false
 
 -- "3 | no fitted drive selected after kinds 0 to 5 or 7"
 abbrev pub unselectedB : Chain → Event → Bool

@@ -14,7 +14,7 @@ use Rattle.record.specs.declared.Chain.{Chain}
 use Rattle.record.specs.Record.{lookOf}
 use Rattle.kinds.specs.Cell.{cellPlace}
 use Rattle.record.specs.Apply.{putOf}
-use Rattle.laws.specs.Levels.{linesAfter, linesTaken}
+use Rattle.chain.specs.Levels.{linesAfter}
 
 -- the event is a cell, the value is the byte that it meets
 pub record ByteRead (e : Event) (c : Chain) (file : List ℕ) (value : ℕ) : Type 0 where
@@ -31,6 +31,10 @@ pub record ByteWritten (e : Event) (c : Chain) (file after : List ℕ) : Type 0 
   pub cell : e ≡ Cell position byte
   pub inside : cellPlace (lookOf c) position < length file
   pub holds : after ≡ set file (cellPlace (lookOf c) position) byte
+
+-- line levels taken, nothing else changed
+abbrev pub linesTaken : Event → Chain → Chain
+linesTaken e c = record { packs = c .packs; states = c .states; lines = linesAfter e (c .lines); length = c .length }
 
 -- "line levels taken"; a drive that was selected and fitted has been left, and its "reading just ends"
 abbrev pub leftBehind : Event → Chain → Chain

@@ -1,4 +1,3 @@
-pub mod Levels
 pub mod Column
 pub mod Applies
 pub mod Run

@@ -26,13 +26,12 @@ use Rattle.decision.specs.Decision.{fittedB}
 use Rattle.decision.specs.Decision.{sayOf, heardOf, ruledOf}
 use Rattle.kinds.specs.Signals.{with-select, with-heads, with-writegate, with-readgate, with-command, with-request, writeGateOf, readGateOf, requestOf, headsOf}
 use Rattle.kinds.specs.Select.{leftAlone, bothOf, movedOf}
 use Rattle.chain.specs.Decide.{selectOf}
 use Rattle.kinds.specs.Passing.{passOf}
 use Rattle.kinds.specs.Cell.{cellPlace, touching, cellOf}
 use Rattle.kinds.specs.Condition.{fixedChange, conditionAt}
 use Rattle.chain.specs.Decide.{conditionOf, decideOf}
-use Rattle.laws.specs.Levels.{linesAfter, movesB}
-use Rattle.laws.specs.Applies.{ruleOf, askedB}
+use Rattle.chain.specs.Levels.{linesAfter, movesB, ruleOf, askedB}
 
 -- kinds 0 to 5
 abbrev pub lineB : Event → Bool
