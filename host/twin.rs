@@ -2,8 +2,8 @@
 //! rules"), written from the paper in its order and words, to be the oracle
 //! in differential tests of the proved library.
 //!
-//! Where the paper is open, the numbered reading of it that decides is named as
-//! "reading N"; docs/DECISIONS.md says the same points in its own order.
+//! Where the paper is open, "as we read it" says what decides here;
+//! docs/DECISIONS.md says the same points in its own order.
 //! Sentences in quotation marks are document 01's.
 //!
 //! Build:  rustc -O twin.rs          (a library)
@@ -192,7 +192,7 @@ pub fn soft_sectored(p: &Profile) -> bool {
     bit(p.general, 2)
 }
 
-/// Reading 17: "Hard sectored" is general bit 1 or 0, that is, not soft.
+/// As we read it: "Hard sectored" is general bit 1 or 0, that is, not soft.
 pub fn hard_sectored(p: &Profile) -> bool {
     !soft_sectored(p)
 }
@@ -329,7 +329,7 @@ fn read_last_pack(left: &[u8], slot_behind: Option<u8>) -> Result<Pack, (u8, usi
     if form_of_trailer(&trailer) != FORM {
         return Err((32, end));
     }
-    // "33 a field" (reading 26: the zero places too)
+    // "33 a field" (as we read it: the zero places too)
     let profile = fields_of_trailer(&trailer);
     if !zero_places_are_zero(&trailer) || !valid_profile(&profile) {
         return Err((33, end));
@@ -338,7 +338,7 @@ fn read_last_pack(left: &[u8], slot_behind: Option<u8>) -> Result<Pack, (u8, usi
     if distance as u64 != pack_length(&profile) {
         return Err((34, end));
     }
-    // "35 slots not rising through the file" (reading 26: the place is the
+    // "35 slots not rising through the file" (as we read it: the place is the
     // end of the pack in front)
     if let Some(behind) = slot_behind {
         if profile.slot >= behind {
@@ -358,7 +358,7 @@ pub fn read_packs(file: &[u8]) -> Result<Vec<Pack>, (u8, usize)> {
     }
     let mut packs: Vec<Pack> = Vec::new();
     let mut end = file.len();
-    // Reading 26: "Nothing left ends the reading".
+    // As we read it: "Nothing left ends the reading".
     while end > 0 {
         let slot_behind = packs.last().map(|p| p.profile.slot);
         let pack = read_last_pack(&file[..end], slot_behind)?;
@@ -379,7 +379,7 @@ pub fn read_answer(file: &[u8]) -> (u8, usize) {
 
 /// "Laying a pack puts a zeroed medium, then the trailer, at the start of a
 /// lent part: 33, then 36, then 37 too little room, buffer untouched. Bytes
-/// past the pack stay." Reading 27: 36 is the pack's own length over the
+/// past the pack stay." As we read it: 36 is the pack's own length over the
 /// limit, and laying has no place: 0.
 pub fn lay_pack(p: &Profile, part: &mut [u8]) -> (u8, usize) {
     if !valid_profile(p) {
@@ -616,7 +616,7 @@ pub fn head_present(d: &Drive) -> bool {
     d.head < d.profile.heads
 }
 
-/// Latches a bit. "Latching any bit ends writing." (Reading 9: and nothing
+/// Latches a bit. "Latching any bit ends writing." (as we read it: and nothing
 /// else.)
 fn latch(d: &mut Drive, number: u32) {
     d.latched |= 1 << number;
@@ -624,7 +624,7 @@ fn latch(d: &mut Drive, number: u32) {
 }
 
 /// "A starting motor is up when its busy timer reaches 0, at once if the
-/// start time is 0." Reading 15: whenever its busy timer is 0, by whatever
+/// start time is 0." As we read it: whenever its busy timer is 0, by whatever
 /// cause.
 fn starting_motor_is_up_at_busy_0(d: &mut Drive) {
     if d.motor == Motor::Starting && d.busy == 0 {
@@ -653,7 +653,7 @@ fn kind_asks_for_a_drive(kind: u32) -> bool {
 }
 
 /// "Of the answers 5, 4, 3, 0 the first that applies is given; a condition
-/// taken answers 0." Reading 1: kind 6 never answers 3.
+/// taken answers 0." As we read it: kind 6 never answers 3.
 fn answer_of(kind: u32, did: Did, fitted_drive_selected: bool) -> u8 {
     match did {
         Did::Fault => 5,
@@ -698,7 +698,7 @@ fn lower_timers(d: &mut Drive, microseconds: u32) {
 }
 
 /// "More than 10,000 µs since its last request edge (house): bit 6,
-/// dropped." Reading 14: exactly 10,000 is no drop, however split.
+/// dropped." As we read it: exactly 10,000 is no drop, however split.
 fn let_transfer_wait(d: &mut Drive, microseconds: u32) -> Did {
     if !transfer_open(d) {
         return Did::Plain;
@@ -714,7 +714,7 @@ fn let_transfer_wait(d: &mut Drive, microseconds: u32) -> Did {
     }
 }
 
-/// Kind 6. Reading 14: all timers fall by the whole time, also where the
+/// Kind 6. As we read it: all timers fall by the whole time, also where the
 /// transfer is dropped within it.
 fn microseconds_pass(chain: &mut Chain, microseconds: u32) -> Did {
     let mut did = Did::Plain;
@@ -815,7 +815,7 @@ fn request_falls(d: &mut Drive) -> Did {
 }
 
 /// The word is carried out when its transfer is over; a response opens the
-/// way out within the same transfer. Reading 1: a fault that a word latches
+/// way out within the same transfer. As we read it: a fault that a word latches
 /// is answered 5 on the fall of its 17th bit.
 fn whole_word_is_in(d: &mut Drive) -> Did {
     let word17 = d.bits;
@@ -860,7 +860,7 @@ fn take_head_lines(d: &mut Drive, head_lines: u8) -> Did {
 
 /// "Head change (house): while writing, bit 6. It ends reading. Where the
 /// profile's switch time is over 15 µs, the head timer starts at it."
-/// Reading 13: the timer starts after a fault as well.
+/// As we read it: the timer starts after a fault as well.
 fn head_change(d: &mut Drive) -> Did {
     let did = if d.writing {
         latch(d, INTERFACE_FAULT);
@@ -892,7 +892,7 @@ fn drive_select_code(chain: &mut Chain, code: u8) -> Did {
     did
 }
 
-/// Kind 1. Reading 12: head lines moved with no fitted drive selected alter
+/// Kind 1. As we read it: head lines moved with no fitted drive selected alter
 /// no drive.
 fn head_lines_move(chain: &mut Chain, lines: u8) -> Did {
     if lines == chain.head_lines {
@@ -909,8 +909,7 @@ fn head_lines_move(chain: &mut Chain, lines: u8) -> Did {
 // Gates
 // ===========================================================================
 
-/// What a gate's rule says of a drive: the first of its list that applies
-/// (reading 8).
+/// What a gate's rule says of a drive: the first of its list that applies.
 #[derive(Clone, Copy, Debug, PartialEq, Eq)]
 pub enum GateRule {
     InterfaceFault,
@@ -1048,7 +1047,7 @@ pub fn cell_place(d: &Drive, position: usize) -> usize {
 }
 
 /// Kind 7: answer and value. "A cell with neither writing nor reading is
-/// inhibited." Reading 5: with no fitted drive selected a cell is 3, and a
+/// inhibited." As we read it: with no fitted drive selected a cell is 3, and a
 /// byte written that was there already is still answer 2.
 fn data_cell(chain: &Chain, file: &mut [u8], position: usize, byte: u8) -> (u8, u8) {
     match chain.selected() {
@@ -1200,7 +1199,7 @@ fn asks_ready(command: Command) -> bool {
     }
 }
 
-/// "seek or offset with position lost, bit 4" (reading 18: recalibrate is
+/// "seek or offset with position lost, bit 4" (as we read it: recalibrate is
 /// carried out)
 fn asks_position(command: Command) -> bool {
     asks_ready(command) && command != Command::Recalibrate
@@ -1295,14 +1294,14 @@ fn recalibrate(d: &mut Drive) {
     d.busy = d.profile.recalibrate;
 }
 
-/// "2 stops"; "Stop when stopped ... do[es] nothing". Reading 16: stop while
+/// "2 stops"; "Stop when stopped ... do[es] nothing". As we read it: stop while
 /// starting stops and leaves busy as it is.
 fn stop_motor(d: &mut Drive) {
     d.motor = Motor::Stopped;
 }
 
 /// "3 starts"; "start when not stopped do[es] nothing; start sets cylinder
-/// 0, offset 0, position found, busy = start time." Reading 16: start while
+/// 0, offset 0, position found, busy = start time." As we read it: start while
 /// starting does nothing.
 fn start_motor(d: &mut Drive) {
     if d.motor != Motor::Stopped {
@@ -1315,7 +1314,7 @@ fn start_motor(d: &mut Drive) {
     d.busy = d.profile.start;
 }
 
-/// "busy = offset time" (reading 19: restore too)
+/// "busy = offset time" (as we read it: restore too)
 fn track_offset(d: &mut Drive, offset: i8) {
     d.offset = offset;
     d.busy = d.profile.offset as u32;
@@ -1369,7 +1368,7 @@ fn whole_sectors_word(d: &Drive) -> u16 {
 /// "The plain word rules are these, given a drive and a word with its parity
 /// bit at once; on a drive that reads or writes, or with command complete
 /// false, they latch bit 6 and stop." The word stands in bits 16..1, its
-/// parity bit in bit 0; the response likewise. Reading 21: they look at no
+/// parity bit in bit 0; the response likewise. As we read it: they look at no
 /// line.
 pub fn plain_word(d: &mut Drive, word17: u32) -> Option<u32> {
     if d.reading || d.writing || !command_complete(d) {
@@ -1399,7 +1398,7 @@ pub fn select_code_over_7(chain: &Chain) -> bool {
 }
 
 /// "head lines | 0..15": the paper's list of limits leaves the head lines
-/// out; without the limit a sound chain would not stay sound (reading 15).
+/// out; without the limit a sound chain would not stay sound.
 pub fn head_lines_over_15(chain: &Chain) -> bool {
     chain.head_lines > 15
 }
@@ -1449,12 +1448,12 @@ pub fn unlisted_bit_latched(chain: &Chain) -> bool {
     any_drive(chain, &|_, d| d.latched & !LATCHED_BITS != 0)
 }
 
-/// Reading 22: "A drive's pack names its own slot."
+/// As we read it: "A drive's pack names its own slot."
 pub fn pack_names_another_slot(chain: &Chain) -> bool {
     any_drive(chain, &|slot, d| d.profile.slot != slot)
 }
 
-/// "a pack's place isn't one the file rules could give". Reading 22: from 0
+/// "a pack's place isn't one the file rules could give". As we read it: from 0
 /// on, slots rising, no gap, the last pack ending at the record's length, at
 /// most 2,147,483,647; with no drive the length is 0.
 pub fn place_not_from_the_file_rules(chain: &Chain) -> bool {
@@ -1489,7 +1488,7 @@ pub fn writes_with_its_gate_low(chain: &Chain) -> bool {
     any_drive(chain, &|_, d| d.writing && !chain.write_gate)
 }
 
-/// "or that gate's rule would stop it". Reading 24: the other gate being on
+/// "or that gate's rule would stop it". As we read it: the other gate being on
 /// included and, for writing, attention.
 pub fn reads_against_its_gates_rule(chain: &Chain) -> bool {
     any_drive(chain, &|_, d| {
@@ -1503,7 +1502,7 @@ pub fn writes_against_its_gates_rule(chain: &Chain) -> bool {
     })
 }
 
-/// "the selected drive's head isn't the head lines". Reading 24: compared
+/// "the selected drive's head isn't the head lines". As we read it: compared
 /// only where the slot is fitted.
 pub fn selected_head_is_not_the_head_lines(chain: &Chain) -> bool {
     match chain.selected() {
@@ -1518,13 +1517,13 @@ pub fn unselected_drive_has_a_transfer(chain: &Chain) -> bool {
 }
 
 /// "an open transfer's acknowledge ... [isn't] what the handshake leaves at
-/// that request level". Reading 23: it equals the request level.
+/// that request level". As we read it: it equals the request level.
 pub fn open_transfers_acknowledge_is_not_the_request(chain: &Chain) -> bool {
     any_drive(chain, &|_, d| transfer_open(d) && d.acknowledge != chain.request)
 }
 
 /// "an open transfer's ... bit counts aren't what the handshake leaves at
-/// that request level". Reading 23: taking, 1 to 16 bits at low, 1 to 17 at
+/// that request level". As we read it: taking, 1 to 16 bits at low, 1 to 17 at
 /// high.
 pub fn taking_count_is_not_the_handshakes(chain: &Chain) -> bool {
     let most = if chain.request { 17 } else { 16 };
@@ -1533,7 +1532,7 @@ pub fn taking_count_is_not_the_handshakes(chain: &Chain) -> bool {
     })
 }
 
-/// Reading 23: "Responding: 0 to 16 out at low, 1 to 17 at high."
+/// As we read it: "Responding: 0 to 16 out at low, 1 to 17 at high."
 pub fn responding_count_is_not_the_handshakes(chain: &Chain) -> bool {
     let (least, most) = if chain.request { (1, 17) } else { (0, 16) };
     any_drive(chain, &|_, d| {
@@ -1541,7 +1540,7 @@ pub fn responding_count_is_not_the_handshakes(chain: &Chain) -> bool {
     })
 }
 
-/// Reading 23: "The collected bits are below two to the power of their
+/// As we read it: "The collected bits are below two to the power of their
 /// count". (A count over 17 breaks the clause above; here it counts as 17.)
 pub fn taken_bits_over_their_count(chain: &Chain) -> bool {
     any_drive(chain, &|_, d| {
@@ -1549,7 +1548,7 @@ pub fn taken_bits_over_their_count(chain: &Chain) -> bool {
     })
 }
 
-/// Reading 23: "and a response below 2^17".
+/// As we read it: "and a response below 2^17".
 pub fn response_over_17_bits(chain: &Chain) -> bool {
     any_drive(chain, &|_, d| d.transfer == Transfer::Responding && d.response >= 1 << 17)
 }
@@ -1652,7 +1651,7 @@ fn kind_unknown(kind: u32) -> bool {
 }
 
 /// "21 operand out of range", by the table of events. "b is 0 for kinds 0 to
-/// 6." (reading 4)
+/// 6."
 fn operand_out_of_range(kind: u32, a: u32, b: u32) -> bool {
     match kind {
         0 => a > 7 || b != 0,
@@ -1852,7 +1851,7 @@ impl Runner {
         format!("{} {} {} {}\n", self.count, answer, value, line_sum(&self.chain))
     }
 
-    /// A whole input. Reading 28: a line ends at the newline byte alone;
+    /// A whole input. As we read it: a line ends at the newline byte alone;
     /// after a last newline there is no further line.
     pub fn run(&mut self, input: &[u8]) -> String {
         let mut output = String::new();

@@ -411,7 +411,7 @@ fn easy_deselecting_during_a_seek_is_no_fault() {
 }
 
 // ===========================================================================
-// Readings 1 to 7: answers
+// answers
 // ===========================================================================
 
 #[test]
@@ -579,7 +579,7 @@ fn reading_07_order_of_refusals() {
 }
 
 // ===========================================================================
-// Readings 8 to 13: gates, heads, select
+// gates, heads, select
 // ===========================================================================
 
 #[test]
@@ -816,7 +816,7 @@ fn reading_13_head_change_while_writing() {
 }
 
 // ===========================================================================
-// Readings 14 to 21: time, motor, words
+// time, motor, words
 // ===========================================================================
 
 #[test]
@@ -1126,7 +1126,7 @@ fn reading_20_and_29_single_words() {
         plain_word(&mut d, with_parity(*word));
         assert_eq!(d.latched, B8 | B5, "{:04x}", word);
     }
-    // Configuration 7's high byte is 0 here (reading 29).
+    // Configuration 7's high byte is 0 here.
     assert_eq!(plain_word(&mut d, with_parity(0x3700)), Some(with_parity(9)));
 }
 
@@ -1184,7 +1184,7 @@ fn any_response_is_fixed_on_the_17th_fall() {
 }
 
 // ===========================================================================
-// Readings 22 to 24: the record, clause by clause
+// the record, clause by clause
 // ===========================================================================
 
 /// What a change of a sound record breaks.
@@ -1487,7 +1487,7 @@ fn every_clause_has_been_seen_alone() {
 }
 
 // ===========================================================================
-// Reading 25: demand 3 by random trials
+// As we read it: demand 3 by random trials
 // ===========================================================================
 
 /// A wait of `total` microseconds as a list of passing events.
@@ -2352,7 +2352,7 @@ fn plain_word_takes_any_drive() {
 }
 
 // ===========================================================================
-// Readings 26 and 27: the pack file
+// the pack file
 // ===========================================================================
 
 #[test]

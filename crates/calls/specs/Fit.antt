@@ -3,7 +3,7 @@ use Prim.Native.Nat.{ℕ, _+_, _*_}
 use mathlib.Core.List.{List}
 use Rattle.pack.specs.declared.read.Answer.{Answer}
 use Rattle.pack.specs.declared.read.Answer.the-variants.{Whole, Refused}
-use Rattle.pack.specs.Refusal.{numberOf}
+use Rattle.pack.specs.Refusal.{readNumber, readPlace}
 use Rattle.record.specs.declared.Chain.{Chain}
 use Rattle.chain.specs.Fresh as fresh
 use Rattle.calls.specs.declared.Coded.{Coded}
@@ -16,7 +16,7 @@ fittedOr (Refused why place) found c = c
 -- "Refusals, with the pack's end as place (0 for 36)": the number in the low byte, the place in the high half; of a file that is taken, n in the second byte
 abbrev pub readCode : Answer → ℕ → ℕ
 readCode Whole n = n * 256
-readCode (Refused why place) n = numberOf why + place .0 * 4294967296
+readCode (Refused why place) n = readNumber (Refused why place) + readPlace (Refused why place) * 4294967296
 
 unfoldable pub fitOf : Chain → List ℕ → Coded
 fitOf c file = record { chain = fittedOr (fresh.fitOf file .answer) (fresh.fitOf file .chain) c; code = readCode (fresh.fitOf file .answer) 0 }

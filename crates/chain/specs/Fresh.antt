@@ -31,7 +31,7 @@ freshSlot p s = if eqb (p .fitted) 1 then freshOf (p .profile) else s
 abbrev pub blankStates : List State
 blankStates = replicate 7 blankState
 
--- a refused file counts as empty
+-- a refused file counts as empty; a file that reads whole is never longer than the longest
 unfoldable pub endOf : Answer → ℕ → ℕ
 endOf Whole n = if ltb longest n then 0 else n
 endOf (Refused why place) n = 0

@@ -1,4 +1,4 @@
-// What an event decides, given a sound chain.
+// What an event decides on a chain.
 use decision::Decision;
 use decision::Seen;
 use event::Event;

@@ -1,7 +1,7 @@
 -- What the tests on a drive give as facts.
 use mathlib.Core.Path.{_≡_}
-use mathlib.Core.Bool.{Bool, true, false, _&&_, _||_, not}
-use Prim.Native.Nat.{ℕ, _≤_, _<_}
+use mathlib.Core.Bool.{true}
+use Prim.Native.Nat.{_≤_, _<_}
 use borrow.Author.Tests.{leb-true, ltb-true, eqb-true}
 use Rattle.counts.proofs.Tests.{each}
 use Rattle.trailer.specs.declared.Profile.{Profile}

@@ -91,6 +91,13 @@ impl Body {
 
     pub const UP: u8 = 2;
 
+    // The status word's live bits: 13 and 12, write protected; 9, motor stopped.
+    pub const PROTECTED_REMOVABLE: u16 = 8192;
+
+    pub const PROTECTED_FIXED: u16 = 4096;
+
+    pub const MOTOR_STOPPED: u16 = 512;
+
     // The highest head, the longest busy time and the longest head switch that a record may hold.
     pub const LAST_HEAD: u8 = 15;
 

@@ -41,9 +41,9 @@ fn protected_bit(p: Profile) -> u16
         return 0;
     }
     if trailer::removable(p.general) {
-        return 8192;
+        return Body::PROTECTED_REMOVABLE;
     }
-    4096
+    Body::PROTECTED_FIXED
 }
 
 // Live bit 9.
@@ -53,7 +53,7 @@ fn stopped_bit(b: Body) -> u16
     if ready(b) {
         return 0;
     }
-    512
+    Body::MOTOR_STOPPED
 }
 
 pub fn status(p: Profile, b: Body) -> u16

@@ -10,8 +10,7 @@ use counts::Micros;
 use handshake::Edge;
 use handshake::Transfer;
 ghost use mathlib.Core.Path.{_≡_};
-ghost use Rattle.drive.specs.State.{ruled};
-ghost use Rattle.drive.specs.Time.{lessOf, motorAfter, passBody, droppedOf, heldOf, passOf};
+ghost use Rattle.drive.specs.Time.{lessOf, motorAfter, passBody, droppedOf, passOf};
 
 fn less(a: Micros, us: Micros) -> Micros
     ensures { λ r. ⌜ r ≡ lessOf a us ⌝ }

@@ -177,10 +177,10 @@ pub fn wait(t: Transfer, us: Micros) -> Edge
 fn bit_out(response: u32, count: u8) -> u8
     ensures { λ r. ⌜ r ≡ bitOut response count ⌝ }
 {
-    if count > 17 {
+    if count > Transfer::BITS {
         return 0;
     }
-    ((response >> (17 - count) as u32) % 2) as u8
+    ((response >> (Transfer::BITS - count) as u32) % 2) as u8
 }
 
 // The configuration/status line.

@@ -1,4 +1,4 @@
-// The drive select code changes.
+// Kind 0: the drive select code changes.
 use decision::Change;
 use decision::Decision;
 use decision::Deed;
@@ -13,7 +13,7 @@ use unit::Lines;
 ghost use mathlib.Core.Path.{_≡_};
 ghost use Rattle.kinds.specs.Select.{eitherAnswer, leftAlone, bothOf, movedOf};
 
-// 5 where the drive left or the one entered is at fault, else what stands after it.
+// 5 where the drive left is at fault, else what comes of the one entered.
 fn either(left: Outcome, other: Answer) -> Answer
     ensures { λ r. ⌜ r ≡ eitherAnswer left other ⌝ }
 {

@@ -6,11 +6,22 @@ ghost use mathlib.Core.Path.{_≡_};
 ghost use Prim.Native.Nat.{_+_, _≤_};
 ghost use mathlib.Core.List.{_++_};
 ghost use lib.ListN.{length, replicate, take, drop};
+ghost use Rattle.pack.specs.Refusal.{laidNumber};
 ghost use Rattle.pack.specs.Lay.{laidAnswer, laidBytes};
 
 pub enum Laid {
     Done,
     Refused(Refusal),
+}
+
+// Document 01's number of an answer; 0 where the pack was laid.
+pub fn number(a: Laid) -> u8
+    ensures { λ r. ⌜ r ≡ laidNumber a ⌝ }
+{
+    match a {
+        Laid::Done => 0,
+        Laid::Refused(why) => crate::number(why),
+    }
 }
 
 fn zero(buffer: &mut [u8], n: usize)

@@ -45,7 +45,6 @@ pub struct Pack {
 }
 
 impl Pack {
-    pub const SLOTS: usize = 7;
     // The longest file, and the longest pack.
     pub const LONGEST: usize = 2147483647;
 

@@ -6,12 +6,33 @@ use trailer::Profile;
 ghost use mathlib.Core.Path.{_≡_};
 ghost use Prim.Native.Nat.{ℕ, _-_, _≤_, _<_};
 ghost use lib.ListN.{length, set};
+ghost use Rattle.pack.specs.Refusal.{readNumber, readPlace};
 ghost use Rattle.pack.specs.Packs.{noPacks, fittedPack};
 ghost use Rattle.pack.specs.Read.{verdictOf, checked, lastPack, refusedAt, readBack, readAll};
 
 pub enum Answer {
     Whole,
     Refused(Refusal, Place),
+}
+
+// Document 01's number of an answer; 0 where nothing is refused.
+pub fn number(a: Answer) -> u8
+    ensures { λ r. ⌜ r ≡ readNumber a ⌝ }
+{
+    match a {
+        Answer::Whole => 0,
+        Answer::Refused(why, _) => crate::number(why),
+    }
+}
+
+// The place that an answer names; 0 where nothing is refused.
+pub fn place(a: Answer) -> u32
+    ensures { λ r. ⌜ r ≡ readPlace a ⌝ }
+{
+    match a {
+        Answer::Whole => 0,
+        Answer::Refused(_, at) => at.0,
+    }
 }
 
 // What reading found: each pack at its slot, or nothing where the file is refused.

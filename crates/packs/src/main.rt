@@ -6,7 +6,9 @@ use counts::Head;
 use counts::Position;
 use libc::STDIN_FILENO;
 use libc::STDOUT_FILENO;
+use pack::lay;
 use pack::lay::Laid;
+use pack::read;
 use pack::read::Answer;
 use text::Line;
 use text::Scan;
@@ -49,18 +51,17 @@ fn front(file: &[u8], n: usize) -> &[u8] {
 }
 
 fn say_answer(answer: Answer) {
+    say_number(read::number(answer) as u32);
+    say_number(read::place(answer));
     match answer {
-        Answer::Whole => say(b" 0 0 packs"),
-        Answer::Refused(why, place) => {
-            say_number(pack::number(why) as u32);
-            say_number(place.0);
-        }
+        Answer::Whole => say(b" packs"),
+        Answer::Refused(_, _) => {}
     }
 }
 
 // The number and the place, and the slots found: none where the file is refused.
 fn show_read(file: &[u8; ROOM], n: usize) {
-    let found = pack::read::read(front(file, n));
+    let found = read::read(front(file, n));
     let answer = found.answer;
     say_answer(answer);
     for i in 0..7 {
@@ -85,7 +86,7 @@ fn place_of(file: &[u8; ROOM], slot: usize) -> u32 {
     if slot > 7 {
         return 0;
     }
-    let found = pack::read::read(front(file, FILE));
+    let found = read::read(front(file, FILE));
     found.slots[slot - 1].place.0
 }
 
@@ -133,17 +134,14 @@ fn drive(slot: u8, cylinders: u16, heads: u8, track: u16) -> Profile {
 }
 
 fn show_laid(r: Laid) {
-    match r {
-        Laid::Done => say_number(0),
-        Laid::Refused(why) => say_number(pack::number(why) as u32),
-    }
+    say_number(lay::number(r) as u32);
     end_line();
 }
 
 fn lay(file: &mut [u8], place: usize, p: Profile)
     requires { ⌜ place ≤ length (now file) ⌝ }
 {
-    show_laid(pack::lay::lay(p, &mut file[place..]));
+    show_laid(lay::lay(p, &mut file[place..]));
 }
 
 fn lay_smallest(file: &mut [u8; ROOM], place: u16, slot: u8) {

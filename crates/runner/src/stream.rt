@@ -30,9 +30,6 @@ struct Told {
     value: u8,
 }
 
-// The runner's own answer: the line isn't three numbers.
-const UNREADABLE: u8 = 19;
-
 fn step(c: Chain, file: &mut [u8], kind: u16, a: u16, b: u16) -> Told {
     let s = board::step(c, file, kind as u32, a as u32, b as u32);
     let chain = s.chain;
@@ -49,7 +46,7 @@ fn outcome(c: Chain, file: &mut [u8], line: Line) -> Told {
         Line::Numbers(kind, a, b) => step(c, file, kind, a, b),
         Line::Unreadable => Told {
             chain: c,
-            answer: UNREADABLE,
+            answer: text::unreadable(),
             value: 0,
         },
     }

@@ -4,6 +4,7 @@ ghost use mathlib.Core.List.{[], _∷_};
 ghost use Prim.Native.Nat.{_+_, _≤_, _<_};
 ghost use lib.ListN.{length};
 ghost use Rattle.text.specs.Bytes.{digitByte};
+ghost use Rattle.text.specs.Whole.{unreadableNumber};
 ghost use Rattle.text.specs.Scan.{freshScan, partedOf, grownOf, fedOf, finishOf, hasByteOf};
 ghost use Rattle.text.specs.Lines.{stopOf};
 ghost use Rattle.text.specs.Answer.{decimalOf, field, answerLine};
@@ -196,4 +197,11 @@ pub fn put_answer(out: &mut [u8], count: u64, answer: u8, value: u8, sum: u8) ->
     let v = put_field(out, a, answer as u64, b' ');
     let s = put_field(out, v, value as u64, b' ');
     put_field(out, s, sum as u64, b'\n')
+}
+
+// Document 01's number of a line that isn't three numbers: the runner's own answer.
+pub fn unreadable() -> u8
+    ensures { λ r. ⌜ r ≡ unreadableNumber ⌝ }
+{
+    19
 }

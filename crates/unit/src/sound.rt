@@ -1,5 +1,6 @@
 // When one drive's record is what the rules leave, clause by clause.
 use crate::Lines;
+use drive::Body;
 use drive::State;
 use drive::gates;
 use drive::limits;
@@ -12,7 +13,7 @@ pub fn lines_ok(l: Lines) -> bool
     ensures { λ r. ⌜ r ≡ linesB l ⌝ }
 {
     (l.select <= 7)
-        & (l.heads.0 <= 15)
+        & (l.heads.0 <= Body::LAST_HEAD)
         & (l.writegate <= 1)
         & (l.readgate <= 1)
         & (l.command <= 1)

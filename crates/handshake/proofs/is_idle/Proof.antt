@@ -1,10 +1,6 @@
 use borrow.Author.Needs.{needs}
-use borrow.Author.Tests.{lt-ltb, le-ltb, le-leb, lt-leb, eq-eqb, ne-eqb, not-true, not-false}
-use native.Mathlib.Omega.{arith}
 use Rattle.handshake.proofs.is_idle.Statement.{statement}
 use Rattle.handshake.proofs.is_idle.Tie as tie
-use Rattle.handshake.proofs.is_idle.Reads as reads
-use Rattle.handshake.proofs.is_idle.Lts as lts
 use Rattle.handshake.proofs.idle.Reads as idle-reads
 
 idle-requires : tie.Need-idle-requires

@@ -36,7 +36,6 @@ use denote.Exit.{yes}
 use denote.Triple.Clauses.{ensured, lasts}
 use Rattle.record.specs.declared.Chain.{Chain}
 use Rattle.board.specs.declared.call.Told.{Told}
-use Rattle.decision.specs.declared.Decision.{Decision}
 use Rattle.record.specs.Apply.{applied}
 use Rattle.judge.specs.Judge.{judgedOf}
 use Rattle.board.specs.Step.{stepOf, stepFile}

@@ -1,5 +1,4 @@
 -- `board::call::said` meets its contract: the answer that the deed gives, as a number.
-use mathlib.Core.Path.{_∙_}
 use borrow.Author.Needs.{needs}
 use Rattle.board.proofs.call.said.Statement.{statement}
 use Rattle.board.proofs.call.said.Tie as tie

@@ -1,6 +1,6 @@
 -- `record::apply::changed` meets its contract: each return rewrites with the change; after i turns time has passed on the first i drives.
 use Prim.Native.Nat.{_≤_, _-_}
-use mathlib.Core.Path.{_≡_, _∙_}
+use mathlib.Core.Path.{_≡_}
 use native.Mathlib.Omega.{arith}
 use borrow.Author.Needs.{needs}
 use borrow.Author.Tests.{lt-leb, le-leb}
