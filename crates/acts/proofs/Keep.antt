@@ -19,11 +19,12 @@ use Rattle.drive.specs.declared.Arm.{Arm}
 use Rattle.drive.specs.declared.Body.{Body}
 use Rattle.drive.specs.State.{stopped, starting, up, with-arm}
 use Rattle.drive.specs.Limits.{armB}
+use Rattle.drive.proofs.Facts.{Parts}
 use Rattle.acts.specs.declared.Act.{Act}
 use Rattle.acts.specs.declared.Act.the-variants.{Seek, Recalibrate, Clear, Stop, Start, Offset, Diagnose, Sector}
 use Rattle.acts.specs.Acts.{distanceOf, busyFor, home, startOf, actedOf}
 use Rattle.acts.proofs.Times.{seek-most, distance-below}
-use Rattle.acts.proofs.Limits.{Parts, busy-keeps}
+use Rattle.acts.proofs.Limits.{busy-keeps}
 
 -- the operands that may stand
 abbrev pub Allowed : Profile → Act → Type 0

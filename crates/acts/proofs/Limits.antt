@@ -1,7 +1,6 @@
--- A body's limits, part by part, and how setting busy and latching keep them.
+-- Setting busy and latching keep a body's limits.
 use mathlib.Core.Path.{_≡_, refl, ap, ap₂, _∙_}
 use mathlib.Core.Bool.{Bool, true, false, _&&_}
-use mathlib.Core.List.{List, [], _∷_}
 use Prim.Native.Nat.{ℕ, _/_, _%_, _≤_, _<_}
 use lib.Bits.{bitOr, or-lt, or-shr, or-mod}
 use lib.Dec.{leb, eqb}
@@ -9,59 +8,15 @@ use borrow.Author.Tests.{ltb-true, eqb-true, le-leb, lt-ltb, eq-eqb}
 use Rattle.counts.specs.declared.Micros.{Micros}
 use Rattle.counts.specs.Bytes.{bit}
 use Rattle.counts.specs.Choice.{if_then_else_}
-use Rattle.counts.proofs.Tests.{both, join, each, all}
+use Rattle.counts.proofs.Tests.{both, join}
 use Rattle.trailer.specs.declared.Profile.{Profile}
-use Rattle.trailer.specs.General.{soft}
-use Rattle.trailer.specs.Valid.{sectorOk}
 use Rattle.drive.specs.declared.Arm.{Arm}
 use Rattle.drive.specs.declared.Body.{Body}
 use Rattle.drive.specs.State.{starting, up, with-arm, with-motor}
 use Rattle.drive.specs.Faults.{latchOf}
-use Rattle.drive.specs.Limits.{armB, timersB, latchedB, motorB, limitsB}
+use Rattle.drive.specs.Limits.{armB, latchedB, motorB}
+use Rattle.drive.proofs.Facts.{Parts}
 use Rattle.acts.specs.Acts.{busyFor}
-
-pub record Parts (p : Profile) (b : Body) : Type 0 where
-  pub arm : armB p (b .arm) ≡ true
-  pub timers : timersB (b .timers) ≡ true
-  pub latched : latchedB (b .latched) ≡ true
-  pub sector : sectorOk (soft (p .general)) (b .sector .0) ≡ true
-  pub head : leb (b .head .0) 15 ≡ true
-  pub motor : motorB (b .motor) (b .timers .busy .0) ≡ true
-  pub reading : leb (b .reading) 1 ≡ true
-  pub writing : leb (b .writing) 1 ≡ true
-
-abbrev tests : Profile → Body → List Bool
-tests p b =
-    armB p (b .arm) ∷
-    timersB (b .timers) ∷
-    latchedB (b .latched) ∷
-    sectorOk (soft (p .general)) (b .sector .0) ∷
-    leb (b .head .0) 15 ∷
-    motorB (b .motor) (b .timers .busy .0) ∷
-    leb (b .reading) 1 ∷
-    leb (b .writing) 1 ∷ []
-
-pub parts : (p : Profile) (b : Body) → limitsB p b ≡ true → Parts p b
-unfolding limitsB
-parts p b h =
-    let e = each (tests p b) h in
-    let t = e .1 .1 .1 .1 in
-    record {
-      arm = e .0;
-      timers = e .1 .0;
-      latched = e .1 .1 .0;
-      sector = e .1 .1 .1 .0;
-      head = t .0;
-      motor = t .1 .0;
-      reading = t .1 .1 .0;
-      writing = t .1 .1 .1 .0;
-    }
-
-pub whole : (p : Profile) (b : Body) → Parts p b → limitsB p b ≡ true
-unfolding limitsB
-whole p b q =
-    all (tests p b)
-    (q .arm, (q .timers, (q .latched, (q .sector, (q .head, (q .motor, (q .reading, (q .writing, tt))))))))
 
 -- a motor that is starting has busy time left, whatever is set
 motor-keeps : (m t : ℕ) (s z : Bool) → eqb m starting ≡ s → eqb t 0 ≡ z → leb m up ≡ true → motorB (if s && z then up else m) t ≡ true

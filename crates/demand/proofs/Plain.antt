@@ -5,7 +5,7 @@ use mathlib.Core.Path.{_≡_, refl, sym, _∙_}
 use mathlib.Core.Bool.{Bool, true, false}
 use mathlib.Core.List.{List, [], _∷_}
 use lib.Dec.{eqb}
-use borrow.Author.Tests.{eqb-true, eqb-false}
+use borrow.Author.Tests.{leb-true, eqb-true, eqb-false}
 use Rattle.trailer.specs.declared.Profile.{Profile}
 use Rattle.handshake.specs.Transfer.{noTransfer}
 use Rattle.handshake.specs.Edges.{waitOf}
@@ -15,7 +15,7 @@ use Rattle.drive.specs.State.{stateOf}
 use Rattle.drive.specs.Faults.{latchBit}
 use Rattle.drive.specs.Status.{calmB, completeB}
 use Rattle.drive.specs.Time.{passBody, passOf}
-use Rattle.drive.proofs.Facts.{limits}
+use Rattle.drive.proofs.Facts.{parts}
 use Rattle.unit.specs.declared.Lines.{Lines}
 use Rattle.unit.proofs.Facts.{Selected, writes, reads}
 use Rattle.word.specs.declared.Told.the-variants.{Nothing}
@@ -64,12 +64,12 @@ flag x false e l h = let z = eqb-false x 1 e in omega arith
 module _ (p : Profile) (l : Lines) (s : State) (f : Selected p l s) where
   pub no-reading : l .readgate ≡ 0 → s .body .reading ≡ 0
   no-reading off =
-      flag (s .body .reading) (eqb (s .body .reading) 1) refl (limits p (s .body) (f .limits) .reading)
+      flag (s .body .reading) (eqb (s .body .reading) 1) refl (leb-true _ _ (parts p (s .body) (f .limits) .reading))
       (λ one. omega (arith, off, reads p l s (f .reading) one .gate))
 
   pub no-writing : l .writegate ≡ 0 → s .body .writing ≡ 0
   no-writing off =
-      flag (s .body .writing) (eqb (s .body .writing) 1) refl (limits p (s .body) (f .limits) .writing)
+      flag (s .body .writing) (eqb (s .body .writing) 1) refl (leb-true _ _ (parts p (s .body) (f .limits) .writing))
       (λ one. omega (arith, off, writes p l s (f .writing) one .gate))
 
 pub low-first : (x : Bit) (xs : List Bit) → timeOf (x .low) ≤ sentTime x xs

@@ -1,9 +1,11 @@
 -- What the tests on a drive give as facts.
 use mathlib.Core.Path.{_≡_}
 use mathlib.Core.Bool.{true}
-use Prim.Native.Nat.{_≤_, _<_}
-use borrow.Author.Tests.{leb-true, ltb-true, eqb-true}
-use Rattle.counts.proofs.Tests.{each}
+use Prim.Native.Nat.{_<_}
+use lib.Dec.{leb}
+use borrow.Author.Needs.{needs}
+use borrow.Author.Tests.{ltb-true, eqb-true}
+use Rattle.counts.proofs.Tests.{each, all}
 use Rattle.trailer.specs.declared.Profile.{Profile}
 use Rattle.trailer.specs.General.{soft}
 use Rattle.trailer.specs.Valid.{sectorOk}
@@ -14,34 +16,29 @@ use Rattle.drive.specs.Gates.{usableTests, usableB}
 use Rattle.drive.specs.Limits.{armTests, armB, timersB, latchedB, motorB, limitTests, limitsB}
 
 -- a drive whose fields keep their limits
-pub record Limits (p : Profile) (b : Body) : Type 0 where
+pub record Parts (p : Profile) (b : Body) : Type 0 where
   pub arm : armB p (b .arm) ≡ true
   pub timers : timersB (b .timers) ≡ true
   pub latched : latchedB (b .latched) ≡ true
   pub sector : sectorOk (soft (p .general)) (b .sector .0) ≡ true
-  pub head : b .head .0 ≤ 15
+  pub head : leb (b .head .0) 15 ≡ true
   pub motor : motorB (b .motor) (b .timers .busy .0) ≡ true
-  pub reading : b .reading ≤ 1
-  pub writing : b .writing ≤ 1
+  pub reading : leb (b .reading) 1 ≡ true
+  pub writing : leb (b .writing) 1 ≡ true
 
-pub limits : (p : Profile) (b : Body) → limitsB p b ≡ true → Limits p b
+pub parts : (p : Profile) (b : Body) → limitsB p b ≡ true → Parts p b
 unfolding limitsB
-limits p b h =
+parts p b h =
     let e = each (limitTests p b) h in
-    record {
-      arm = e .0;
-      timers = e .1 .0;
-      latched = e .1 .1 .0;
-      sector = e .1 .1 .1 .0;
-      head = leb-true _ _ (e .1 .1 .1 .1 .0);
-      motor = e .1 .1 .1 .1 .1 .0;
-      reading = leb-true _ _ (e .1 .1 .1 .1 .1 .1 .0);
-      writing = leb-true _ _ (e .1 .1 .1 .1 .1 .1 .1 .0);
-    }
+    search needs
+
+pub whole : (p : Profile) (b : Body) → Parts p b → limitsB p b ≡ true
+unfolding limitsB
+whole p b q = all (limitTests p b) (search needs)
 
 -- the heads stand on a cylinder that is there
 pub on-cylinder : (p : Profile) (b : Body) → limitsB p b ≡ true → b .arm .cylinder .0 < p .shape .cylinders .0
-on-cylinder p b h = ltb-true _ _ (each (armTests p (b .arm)) (limits p b h .arm) .0)
+on-cylinder p b h = ltb-true _ _ (each (armTests p (b .arm)) (parts p b h .arm) .0)
 
 -- a drive that may read or write
 pub record Usable (p : Profile) (s : State) : Type 0 where

@@ -21,7 +21,8 @@ use Rattle.drive.specs.Faults.{latchBit, losePosition}
 use Rattle.drive.specs.Heads.{switchedOf}
 use Rattle.drive.specs.Time.{motorAfter, passBody}
 use Rattle.drive.specs.Limits.{armTests, timerTests, motorB}
-use Rattle.acts.proofs.Limits.{Parts, latch-keeps}
+use Rattle.drive.proofs.Facts.{Parts}
+use Rattle.acts.proofs.Limits.{latch-keeps}
 
 -- "2 latches bit 4, loses the position and ends reading"
 abbrev pub lostBody : Body → Body

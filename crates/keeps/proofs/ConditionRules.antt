@@ -14,8 +14,7 @@ use Rattle.drive.specs.State.{stateOf}
 use Rattle.drive.specs.Faults.{latchOf, latchBit, conditionOf}
 use Rattle.drive.specs.Status.{completeB}
 use Rattle.drive.specs.Gates.{usableB}
-use Rattle.drive.proofs.Facts.{usable}
-use Rattle.acts.proofs.Limits.{whole}
+use Rattle.drive.proofs.Facts.{whole, usable}
 use Rattle.unit.specs.declared.Lines.{Lines}
 use Rattle.unit.specs.Sound.{soundB}
 use Rattle.unit.proofs.Facts.{selected}

@@ -8,7 +8,7 @@ use Rattle.trailer.specs.declared.Profile.{Profile}
 use Rattle.handshake.specs.Left.{noneB}
 use Rattle.drive.specs.declared.State.{State}
 use Rattle.drive.specs.Limits.{limitsB}
-use Rattle.acts.proofs.Limits.{Parts, parts}
+use Rattle.drive.proofs.Facts.{Parts, parts}
 use Rattle.unit.specs.declared.Lines.{Lines}
 use Rattle.unit.specs.Sound.{selectedTests, selectedB, unselectedTests, unselectedB, soundB}
 use Rattle.unit.proofs.Facts.{Selected, selected}

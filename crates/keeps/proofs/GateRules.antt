@@ -15,8 +15,7 @@ use Rattle.drive.specs.State.{with-reading, with-writing, stateOf}
 use Rattle.drive.specs.Faults.{latchOf, latchBit}
 use Rattle.drive.specs.Status.{attentionB, completeB}
 use Rattle.drive.specs.Gates.{usableB, writeRises, readRises, writeFalls, readFalls}
-use Rattle.drive.proofs.Facts.{usable}
-use Rattle.acts.proofs.Limits.{whole}
+use Rattle.drive.proofs.Facts.{whole, usable}
 use Rattle.unit.specs.declared.Lines.{Lines}
 use Rattle.unit.specs.Sound.{lineTests, linesB, soundB}
 use Rattle.unit.proofs.Facts.{selected}

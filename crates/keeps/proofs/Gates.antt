@@ -4,15 +4,14 @@ use mathlib.Core.Bool.{Bool, true, false, _||_, false≢true}
 use Prim.Native.Nat.{ℕ, _≤_}
 use native.Mathlib.Omega.{arith}
 use lib.Dec.{eqb}
-use borrow.Author.Tests.{eqb-true, eqb-false, eq-eqb}
+use borrow.Author.Tests.{leb-true, eqb-true, eqb-false, eq-eqb}
 use Rattle.counts.specs.Tests.{allOf}
 use Rattle.counts.proofs.Tests.{all}
 use Rattle.trailer.specs.declared.Profile.{Profile}
 use Rattle.handshake.specs.Left.{leftB}
 use Rattle.drive.specs.declared.State.{State}
 use Rattle.drive.specs.Status.{completeB}
-use Rattle.drive.proofs.Facts.{limits, usable}
-use Rattle.acts.proofs.Limits.{Parts, whole}
+use Rattle.drive.proofs.Facts.{Parts, parts, whole, usable}
 use Rattle.unit.specs.declared.Lines.{Lines}
 use Rattle.unit.specs.Sound.{writingTests, writingB, readingTests, readingB, soundB}
 use Rattle.unit.proofs.Facts.{Selected, Writes, writes, Reads, reads}
@@ -52,10 +51,10 @@ set n h z = omega (arith, eqb-false n 0 z)
 
 module _ (p : Profile) (l : Lines) (s : State) (f : Selected p l s) where
   no-writing : (Writes p l s → ⊥) → s .body .writing ≡ 0
-  no-writing never = flag (s .body .writing) (limits p (s .body) (f .limits) .writing) (λ e. never (writes p l s (f .writing) e))
+  no-writing never = flag (s .body .writing) (leb-true _ _ (parts p (s .body) (f .limits) .writing)) (λ e. never (writes p l s (f .writing) e))
 
   no-reading : (Reads p l s → ⊥) → s .body .reading ≡ 0
-  no-reading never = flag (s .body .reading) (limits p (s .body) (f .limits) .reading) (λ e. never (reads p l s (f .reading) e))
+  no-reading never = flag (s .body .reading) (leb-true _ _ (parts p (s .body) (f .limits) .reading)) (λ e. never (reads p l s (f .reading) e))
 
   -- its own gate is not on
   pub write-gate-off : (l .writegate ≡ 1 → ⊥) → s .body .writing ≡ 0
@@ -77,14 +76,14 @@ module _ (p : Profile) (l : Lines) (s : State) (f : Selected p l s) where
     where
       cases : (z : Bool) → eqb (s .body .writing) 0 ≡ z → writingB p m r ≡ true
       cases true z = not-writing p m r (same ∙ eqb-true _ _ z)
-      cases false z = may-write p m r (on (writes p l s (f .writing) (set (s .body .writing) (limits p (s .body) (f .limits) .writing) z)))
+      cases false z = may-write p m r (on (writes p l s (f .writing) (set (s .body .writing) (leb-true _ _ (parts p (s .body) (f .limits) .writing)) z)))
 
   pub still-reads : (m : Lines) (r : State) → r .body .reading ≡ s .body .reading → (Reads p l s → Reads p m r) → readingB p m r ≡ true
   still-reads m r same on = cases (eqb (s .body .reading) 0) refl
     where
       cases : (z : Bool) → eqb (s .body .reading) 0 ≡ z → readingB p m r ≡ true
       cases true z = not-reading p m r (same ∙ eqb-true _ _ z)
-      cases false z = may-read p m r (on (reads p l s (f .reading) (set (s .body .reading) (limits p (s .body) (f .limits) .reading) z)))
+      cases false z = may-read p m r (on (reads p l s (f .reading) (set (s .body .reading) (leb-true _ _ (parts p (s .body) (f .limits) .reading)) z)))
 
 -- a selected drive that neither reads nor writes
 pub neither : (p : Profile) (l : Lines) (s : State) → Parts p (s .body) → s .body .head .0 ≡ l .heads .0 → leftB (l .request) (s .transfer) ≡ true

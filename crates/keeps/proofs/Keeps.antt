@@ -5,7 +5,7 @@ use Rattle.trailer.specs.declared.Profile.{Profile}
 use Rattle.trailer.specs.Valid.{validB}
 use Rattle.drive.specs.declared.State.{State}
 use Rattle.drive.specs.State.{freshOf}
-use Rattle.acts.proofs.Limits.{whole}
+use Rattle.drive.proofs.Facts.{whole}
 use Rattle.unit.specs.declared.Lines.{Lines}
 use Rattle.unit.specs.Sound.{soundB}
 use Rattle.keeps.proofs.Facts.{unselected, from-unselected}

@@ -20,8 +20,7 @@ use Rattle.drive.specs.Faults.{latchOf}
 use Rattle.drive.specs.Status.{calmB, completeB}
 use Rattle.drive.specs.Gates.{usableTests, usableB}
 use Rattle.drive.specs.Time.{droppedOf}
-use Rattle.drive.proofs.Facts.{usable}
-use Rattle.acts.proofs.Limits.{parts, whole}
+use Rattle.drive.proofs.Facts.{parts, whole, usable}
 use Rattle.word.specs.declared.Told.{Told}
 use Rattle.word.specs.declared.Told.the-variants.{Nothing, Word}
 use Rattle.word.specs.Rules.{carryOf}

@@ -19,7 +19,7 @@ use Rattle.drive.specs.State.{with-reading, stateOf}
 use Rattle.drive.specs.Faults.{latchOf}
 use Rattle.drive.specs.Heads.{switchedOf, headChange, metOf, leftOf}
 use Rattle.drive.specs.Time.{droppedOf}
-use Rattle.acts.proofs.Limits.{Parts, whole}
+use Rattle.drive.proofs.Facts.{Parts, whole}
 use Rattle.unit.specs.declared.Lines.{Lines}
 use Rattle.unit.specs.Sound.{lineTests, linesB, writingB, readingB, soundB}
 use Rattle.unit.proofs.Facts.{selected}

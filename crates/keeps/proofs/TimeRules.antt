@@ -19,7 +19,7 @@ use Rattle.drive.specs.State.{stateOf}
 use Rattle.drive.specs.Faults.{latchOf}
 use Rattle.drive.specs.Status.{completeB}
 use Rattle.drive.specs.Time.{passBody, droppedOf, heldOf, passOf}
-use Rattle.acts.proofs.Limits.{parts, whole}
+use Rattle.drive.proofs.Facts.{parts, whole}
 use Rattle.unit.specs.declared.Lines.{Lines}
 use Rattle.unit.specs.Sound.{soundB}
 use Rattle.unit.proofs.Facts.{selected}

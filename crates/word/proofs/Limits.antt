@@ -9,7 +9,8 @@ use Rattle.trailer.specs.Valid.{validB}
 use Rattle.drive.specs.declared.Body.{Body}
 use Rattle.drive.specs.declared.State.{State}
 use Rattle.drive.specs.Limits.{limitsB}
-use Rattle.acts.proofs.Limits.{Parts, parts, whole, latch-keeps}
+use Rattle.drive.proofs.Facts.{Parts, parts, whole}
+use Rattle.acts.proofs.Limits.{latch-keeps}
 use Rattle.acts.proofs.Keep.{act-keeps}
 use Rattle.command.specs.declared.Effect.{Effect}
 use Rattle.command.specs.declared.Effect.the-variants.{Fails, Status, Configuration, Does}
