@@ -1,8 +1,10 @@
-//! Nanoseconds an event, by kind, through C and by the twin, in one run; and
-//! the event lines of a run of the bus, for the runners to be timed on.
+//! Nanoseconds an event, by kind, through C and by the twin, in one run;
+//! nanoseconds a fit, of a small and a large file; and the event lines of a
+//! run of the bus, for the runners to be timed on.
 //!
-//!     bench [EVENTS [CASE]]     EVENTS a case; CASE alone, as for callgrind
-//!     bench lines N             N event lines on standard output
+//!     bench [EVENTS [CASE DRIVES]]   EVENTS a case; one CASE alone, as for callgrind
+//!     bench fits N                   N fits of each file
+//!     bench lines N                  N event lines on standard output
 
 #![cfg_attr(plain_main, no_main)]
 
@@ -11,8 +13,13 @@ mod esdi;
 #[allow(dead_code)]
 mod twin;
 
-use std::hint::black_box;
 use std::time::Instant;
+
+/// The value again, by a reading that no compiler leaves out.
+fn kept<T>(value: T) -> T {
+    let value = std::mem::ManuallyDrop::new(value);
+    unsafe { std::ptr::read_volatile(&*value) }
+}
 
 fn profile(slot: u8) -> twin::Profile {
     let mut p = twin::smallest_drive(slot);
@@ -80,6 +87,58 @@ fn least(runs: usize, n: usize, turn: &[(u32, u32, u32)], mut event: impl FnMut(
     best
 }
 
+/// The twin's event, kept apart so that its instructions can be counted.
+#[inline(never)]
+fn twin_event(chain: &mut twin::Chain, file: &mut [u8], kind: u32, a: u32, b: u32) -> (u8, u8) {
+    twin::step(chain, file, kind, a, b)
+}
+
+#[inline(never)]
+fn twin_fit(file: &[u8]) -> twin::Chain {
+    twin::Chain::fresh(file).unwrap()
+}
+
+extern "C" {
+    fn mmap(at: *mut u8, length: usize, protection: i32, flags: i32, file: i32, offset: i64) -> *mut u8;
+}
+
+/// A file of two packs whose media are never touched: only the trailers are written.
+fn sparse(cylinders: u16, heads: u8) -> &'static mut [u8] {
+    let packs = [1, 3].map(|slot| {
+        let mut p = twin::smallest_drive(slot);
+        (p.cylinders, p.heads, p.track) = (cylinders, heads, 32_768);
+        p
+    });
+    let length: usize = packs.iter().map(|p| twin::pack_length(p) as usize).sum();
+    // PROT_READ, PROT_WRITE; MAP_PRIVATE, MAP_ANONYMOUS, MAP_NORESERVE
+    let at = unsafe { mmap(std::ptr::null_mut(), length, 3, 0x2 | 0x20 | 0x4000, -1, 0) };
+    assert!(at as isize != -1, "no room for {} bytes", length);
+    let file = unsafe { std::slice::from_raw_parts_mut(at, length) };
+    let mut end = 0;
+    for p in &packs {
+        end += twin::pack_length(p) as usize;
+        let trailer = twin::trailer_of_fields(p);
+        file[end - trailer.len()..end].copy_from_slice(&trailer);
+    }
+    file
+}
+
+/// Reading's cost is the trailers', whatever the media hold.
+fn fits(n: usize) {
+    for (cylinders, heads) in [(8, 2), (1_024, 16)] {
+        let file = sparse(cylinders, heads);
+        let mut record = esdi::empty();
+        assert_eq!(esdi::fit(&mut record, file), (0, 0));
+        let ours = least(5, n, &[(0, 0, 0)], |_, _, _| {
+            kept(esdi::fit(kept(&mut record), file));
+        });
+        let plain = least(5, n, &[(0, 0, 0)], |_, _, _| {
+            kept(twin_fit(kept(&*file)).length);
+        });
+        println!("fit of two packs, {:10} bytes: ns through C {:.1}, by the twin {:.1}", file.len(), ours, plain);
+    }
+}
+
 /// Event lines that select, send words, pass time and move cells.
 fn lines(n: usize) {
     use std::io::Write;
@@ -98,9 +157,13 @@ fn run() {
     if arguments.first().map_or(false, |s| s == "lines") {
         return lines(arguments[1].parse().expect("a number"));
     }
+    if arguments.first().map_or(false, |s| s == "fits") {
+        return fits(arguments[1].parse().expect("a number"));
+    }
     let n: usize = arguments.first().map(|s| s.parse().expect("a number")).unwrap_or(1_000_000);
-    let only: Option<usize> = arguments.get(1).map(|s| s.parse().unwrap());
-    for drives in [1u8, 7] {
+    let only: Option<usize> = arguments.get(1).map(|s| s.parse().expect("a case"));
+    let fitted = arguments.get(2).map_or(vec![1u8, 7], |s| vec![s.parse().expect("how many drives")]);
+    for drives in fitted {
         println!("{} fitted: ns an event through C, by the twin, ratio", drives);
         let profiles: Vec<_> = (1..=drives).map(profile).collect();
         for (number, case) in cases().into_iter().enumerate() {
@@ -114,10 +177,10 @@ fn run() {
             }
             let mut record = esdi::record_of(&chain);
             let ours = least(5, n, &case.turn, |kind, a, b| {
-                black_box(esdi::event(&mut record, &mut file, kind, a, b));
+                kept(esdi::event(&mut record, &mut file, kind, a, b));
             });
             let plain = least(5, n, &case.turn, |kind, a, b| {
-                black_box(twin::step(black_box(&mut chain), &mut file, kind, a, b));
+                kept(twin_event(kept(&mut chain), &mut file, kind, a, b));
             });
             println!("{:16} {:7.1} {:7.1} {:6.2}", case.name, ours, plain, ours / plain);
         }

@@ -55,6 +55,17 @@ fn some_time(dice: &mut Dice, most: u32) -> u32 {
 }
 
 fn some_profile(dice: &mut Dice, slot: u8) -> twin::Profile {
+    let mut profile = any_profile(dice, slot);
+    // a quick drive, ready again within a pass or two
+    if dice.one_in(2) {
+        profile.recalibrate = profile.recalibrate.min(60_000);
+        profile.start = profile.start.min(60_000);
+        profile.diagnostic = profile.diagnostic.min(60_000);
+    }
+    profile
+}
+
+fn any_profile(dice: &mut Dice, slot: u8) -> twin::Profile {
     let switch = match dice.upto(3) {
         0 => dice.upto(15),
         1 => 16,
@@ -168,12 +179,17 @@ fn send(dice: &mut Dice, events: &mut Vec<Event>) {
     }
 }
 
+/// A whole word without a pause.
+fn at_once(word: u16, events: &mut Vec<Event>) {
+    let whole = twin::with_parity(word);
+    for i in 0..17 {
+        events.extend([(4, whole >> (16 - i) & 1, 0), (5, 1, 0), (5, 0, 0)]);
+    }
+}
+
 /// Control 0: no latched bit stands, so that writing can begin.
 fn clear(events: &mut Vec<Event>) {
-    let word = twin::with_parity(0x5000);
-    for i in 0..17 {
-        events.extend([(4, word >> (16 - i) & 1, 0), (5, 1, 0), (5, 0, 0)]);
-    }
+    at_once(0x5000, events);
 }
 
 /// A gate raised, some cells, and the gate lowered.
@@ -193,6 +209,24 @@ fn cells(dice: &mut Dice, events: &mut Vec<Event>) {
     events.push((gate, 0, 0));
 }
 
+/// A drive made ready as a host does it, then many cells under one gate.
+fn track(dice: &mut Dice, slot: u32, events: &mut Vec<Event>) {
+    events.extend([(2, 0, 0), (3, 0, 0), (5, 0, 0), (0, 0, 0), (0, slot, 0), (1, dice.pick(&[0, 0, 0, 1]), 0)]);
+    clear(events);
+    if dice.one_in(3) {
+        events.extend([(6, 65_535, 0), (6, 65_535, 0)]);
+        at_once(dice.pick(&[0x0000, 0x0001, 0x0002, 0x1000, 0x7000]) as u16, events);
+    }
+    events.extend([(6, 65_535, 0), (6, 65_535, 0)]);
+    let gate = dice.between(2, 3);
+    events.push((gate, 1, 0));
+    for _ in 0..dice.between(20, 100) {
+        let a = if dice.one_in(10) { dice.pick(&[0, 4_094, 4_095, 4_096, 4_199, 4_200]) } else { dice.upto(4_094) };
+        events.push((7, a, dice.upto(255)));
+    }
+    events.push((gate, 0, 0));
+}
+
 fn some_events(dice: &mut Dice, fitted: &[twin::Profile]) -> Vec<Event> {
     let mut events = Vec::new();
     let slot = |dice: &mut Dice| {
@@ -207,7 +241,7 @@ fn some_events(dice: &mut Dice, fitted: &[twin::Profile]) -> Vec<Event> {
         clear(&mut events);
     }
     for _ in 0..dice.between(5, 60) {
-        match dice.upto(19) {
+        match dice.upto(22) {
             0 | 1 => events.push((0, slot(dice), 0)),
             2 => events.push((1, dice.pick(&[0, 0, 0, 1, 1, 2, 15, 16]), 0)),
             3 | 4 => line(dice, &mut events),
@@ -220,6 +254,10 @@ fn some_events(dice: &mut Dice, fitted: &[twin::Profile]) -> Vec<Event> {
                 cells(dice, &mut events);
             }
             18 => events.push((dice.upto(10), dice.upto(70_000), dice.upto(300))),
+            19..=21 => {
+                let to = slot(dice);
+                track(dice, to, &mut events);
+            }
             _ => {
                 let numbers = (dice.next() as u32, dice.next() as u32, dice.next() as u32);
                 events.push(numbers);

@@ -9,6 +9,8 @@
 //! output. A pack file that is refused prints "refused NUMBER PLACE" on
 //! standard error and leaves with 1.
 
+#![cfg_attr(plain_main, no_main)]
+
 #[allow(dead_code)]
 mod twin;
 
@@ -56,11 +58,24 @@ fn run(runner: &mut twin::Runner) -> io::Result<()> {
     output.flush()
 }
 
-fn main() {
+fn whole_run() {
     let arguments: Vec<String> = env::args().skip(1).collect();
     let mut runner = runner_of_arguments(&arguments);
     if let Err(error) = run(&mut runner) {
         eprintln!("{}", error);
         exit(1);
     }
+}
+
+#[cfg(not(plain_main))]
+fn main() {
+    whole_run();
+}
+
+/// Where the standard start of a Rust program isn't to be had, as under some emulators.
+#[cfg(plain_main)]
+#[no_mangle]
+pub extern "C" fn main() -> i32 {
+    whole_run();
+    0
 }
