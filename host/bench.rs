@@ -2,9 +2,9 @@
 //! nanoseconds a fit, of a small and a large file; and the event lines of a
 //! run of the bus, for the runners to be timed on.
 //!
-//!     bench [EVENTS [CASE DRIVES]]   EVENTS a case; one CASE alone, as for callgrind
-//!     bench fits N                   N fits of each file
-//!     bench lines N                  N event lines on standard output
+//!     bench [EVENTS [CASE DRIVES WHO]]   EVENTS a case; one CASE alone, by ours or twin, as for callgrind
+//!     bench fits N                       N fits of each file
+//!     bench lines N                      N event lines on standard output
 
 #![cfg_attr(plain_main, no_main)]
 
@@ -87,12 +87,6 @@ fn least(runs: usize, n: usize, turn: &[(u32, u32, u32)], mut event: impl FnMut(
     best
 }
 
-/// The twin's event, kept apart so that its instructions can be counted.
-#[inline(never)]
-fn twin_event(chain: &mut twin::Chain, file: &mut [u8], kind: u32, a: u32, b: u32) -> (u8, u8) {
-    twin::step(chain, file, kind, a, b)
-}
-
 #[inline(never)]
 fn twin_fit(file: &[u8]) -> twin::Chain {
     twin::Chain::fresh(file).unwrap()
@@ -163,6 +157,7 @@ fn run() {
     let n: usize = arguments.first().map(|s| s.parse().expect("a number")).unwrap_or(1_000_000);
     let only: Option<usize> = arguments.get(1).map(|s| s.parse().expect("a case"));
     let fitted = arguments.get(2).map_or(vec![1u8, 7], |s| vec![s.parse().expect("how many drives")]);
+    let runs = |who: &str| if arguments.get(3).map_or(true, |s| s == who) { 5 } else { 0 };
     for drives in fitted {
         println!("{} fitted: ns an event through C, by the twin, ratio", drives);
         let profiles: Vec<_> = (1..=drives).map(profile).collect();
@@ -176,11 +171,11 @@ fn run() {
                 twin::step(&mut chain, &mut file, kind, a, b);
             }
             let mut record = esdi::record_of(&chain);
-            let ours = least(5, n, &case.turn, |kind, a, b| {
+            let ours = least(runs("ours"), n, &case.turn, |kind, a, b| {
                 kept(esdi::event(&mut record, &mut file, kind, a, b));
             });
-            let plain = least(5, n, &case.turn, |kind, a, b| {
-                kept(twin_event(kept(&mut chain), &mut file, kind, a, b));
+            let plain = least(runs("twin"), n, &case.turn, |kind, a, b| {
+                kept(twin::step(kept(&mut chain), &mut file, kind, a, b));
             });
             println!("{:16} {:7.1} {:7.1} {:6.2}", case.name, ours, plain, ours / plain);
         }
