@@ -3,9 +3,9 @@ use counts::Cylinder;
 use counts::Head;
 use counts::Micros;
 use counts::Position;
-use trailer::Profile;
-use trailer::Shape;
-use trailer::Times;
+use profile::Profile;
+use profile::Shape;
+use profile::Times;
 
 // Five drives of different kinds; slots 3 and 6 are empty.
 pub const MIXED: u8 = 0;

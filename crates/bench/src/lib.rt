@@ -7,8 +7,8 @@ pub mod tally;
 use board::Stepped;
 use chain::fresh;
 use pack::lay;
+use profile::Profile;
 use record::Chain;
-use trailer::Profile;
 ghost use Prim.Native.Nat.{_≤_};
 ghost use lib.ListN.{length};
 
@@ -46,7 +46,7 @@ fn lay_behind(file: &mut [u8; ROOM], at: usize, p: Profile) -> usize {
     }
     lay(file, at, p);
     let shape = p.shape;
-    at + trailer::medium(shape) + Profile::TRAILER
+    at + profile::medium(shape) + trailer::LENGTH
 }
 
 fn lay_slot(file: &mut [u8; ROOM], at: usize, which: u8, slot: u8) -> usize {

@@ -10,8 +10,8 @@ use Rattle.counts.specs.Choice.{if_then_else_}
 use Rattle.counts.proofs.Choice.{by-test}
 use Rattle.drive.specs.declared.Outcome.{Outcome}
 use Rattle.drive.specs.declared.Outcome.the-variants as outcome
-use Rattle.drive.specs.Time as time
-use Rattle.drive.specs.Heads.{leftOf}
+use Rattle.rules.specs.Time as time
+use Rattle.rules.specs.Left.{leftOf}
 use Rattle.event.specs.declared.Answer.{Answer}
 use Rattle.event.specs.declared.Answer.the-variants.{Taken, Unselected}
 use Rattle.event.specs.declared.Event.{Event}

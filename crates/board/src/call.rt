@@ -2,9 +2,9 @@
 use decision::Decision;
 use decision::Deed;
 use pack::Pack;
+use profile::Profile;
 use record::Chain;
 use record::apply;
-use trailer::Profile;
 ghost use mathlib.Core.Path.{_≡_};
 ghost use lib.ListN.{length};
 ghost use Rattle.pack.specs.Refusal.{laidNumber};

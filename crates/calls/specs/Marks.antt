@@ -1,7 +1,7 @@
 -- A record whose every field holds a mark of its own: no two fields of a struct hold one number, and no two slots are alike.
 use Prim.Native.Nat.{ℕ}
 use mathlib.Core.List.{List, [], _∷_}
-use Rattle.trailer.specs.declared.Profile.{Profile}
+use Rattle.profile.specs.declared.Profile.{Profile}
 use Rattle.pack.specs.declared.Pack.{Pack}
 use Rattle.drive.specs.declared.Body.{Body}
 use Rattle.drive.specs.declared.State.{State}

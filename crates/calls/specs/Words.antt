@@ -3,7 +3,7 @@ use Prim.Native.Nat.{ℕ, _+_, _*_}
 use mathlib.Core.Bool.{not}
 use lib.Dec.{ltb}
 use Rattle.counts.specs.Choice.{if_then_else_}
-use Rattle.trailer.specs.declared.Profile.{Profile}
+use Rattle.profile.specs.declared.Profile.{Profile}
 use Rattle.drive.specs.declared.State.{State}
 use Rattle.drive.specs.declared.Outcome.{Outcome}
 use Rattle.drive.specs.declared.Outcome.the-variants as outcome

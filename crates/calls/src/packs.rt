@@ -4,7 +4,7 @@ use pack::Pack;
 use pack::lay;
 use pack::lay::Laid;
 use pack::read;
-use trailer::Profile;
+use profile::Profile;
 ghost use mathlib.Core.Path.{_≡_};
 ghost use Rattle.pack.specs.Refusal.{laidNumber};
 ghost use Rattle.pack.specs.Lay.{laidAnswer, laidBytes};

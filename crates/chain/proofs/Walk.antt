@@ -11,7 +11,8 @@ use Rattle.counts.proofs.Choice.{by-test}
 use Rattle.drive.specs.declared.Ruled.{Ruled}
 use Rattle.drive.specs.State.{stateOf}
 use Rattle.drive.specs.Faults as faults
-use Rattle.drive.specs.Heads.{metOf, leftOf}
+use Rattle.rules.specs.Heads.{metOf}
+use Rattle.rules.specs.Left.{leftOf}
 use Rattle.event.specs.declared.Answer.the-variants.{Taken, Unselected, Inhibited, Inapplicable, PastTrack}
 use Rattle.event.specs.declared.Event.{Event}
 use Rattle.event.specs.declared.Event.the-variants.{Select, Heads, WriteGate, ReadGate, Data, Request, Pass, Cell, Condition}

@@ -5,9 +5,9 @@ use mathlib.Core.Logic.{inl}
 use Prim.Native.Nat.{ℕ, _+_, _<_}
 use native.Mathlib.Omega.{arith}
 use Rattle.counts.specs.declared.Position.{Position}
-use Rattle.trailer.specs.Profile.{mediumOf}
+use Rattle.profile.specs.Profile.{mediumOf}
 use Rattle.drive.specs.Status.{attentionB}
-use Rattle.drive.proofs.Facts.{Usable, usable}
+use Rattle.gates.proofs.Facts.{Usable, usable}
 use Rattle.event.specs.declared.Answer.{Answer}
 use Rattle.event.specs.declared.Event.{Event}
 use Rattle.unit.proofs.Facts.{writes}

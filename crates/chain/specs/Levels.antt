@@ -3,8 +3,8 @@ use mathlib.Core.Bool.{Bool, true, false, not}
 use lib.Dec.{eqb}
 use Rattle.counts.specs.Choice.{if_then_else_}
 use Rattle.drive.specs.declared.Ruled.{Ruled}
-use Rattle.drive.specs.Gates.{writeRises, readRises, writeFalls, readFalls}
-use Rattle.drive.specs.Heads.{metOf}
+use Rattle.gates.specs.Gates.{writeRises, readRises, writeFalls, readFalls}
+use Rattle.rules.specs.Heads.{metOf}
 use Rattle.event.specs.declared.Event.{Event}
 use Rattle.event.specs.declared.Event.the-variants.{Select, Heads, WriteGate, ReadGate, Data, Request, Pass, Cell, Condition}
 use Rattle.unit.specs.declared.Lines.{Lines}

@@ -6,7 +6,7 @@ use drive::Ruled;
 use drive::State;
 use event::Answer;
 use pack::Pack;
-use trailer::Profile;
+use profile::Profile;
 use unit::Lines;
 ghost use mathlib.Core.Path.{_≡_};
 ghost use Rattle.decision.specs.Decision.{fittedB, outcomeAnswer, sayOf, heardOf, ruledOf, doneOf};

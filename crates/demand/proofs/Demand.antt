@@ -9,7 +9,7 @@ use lib.ListN.{length, getD, set}
 use borrow.Author.Tests.{leb-true, eq-eqb}
 use Rattle.counts.specs.Choice.{if_then_else_}
 use Rattle.counts.proofs.Tests.{each}
-use Rattle.trailer.specs.declared.Profile.{Profile}
+use Rattle.profile.specs.declared.Profile.{Profile}
 use Rattle.handshake.specs.Transfer.{wordBits, noTransfer}
 use Rattle.pack.specs.Packs.{noPack}
 use Rattle.drive.specs.declared.Body.{Body}
@@ -17,7 +17,7 @@ use Rattle.drive.specs.declared.State.{State}
 use Rattle.drive.specs.State.{blankState, stateOf}
 use Rattle.drive.specs.Faults.{latchBit}
 use Rattle.drive.specs.Status.{calmB, completeB}
-use Rattle.drive.specs.Time as time
+use Rattle.rules.specs.Time as time
 use Rattle.unit.specs.Sound.{lineTests}
 use Rattle.unit.proofs.Facts.{Selected}
 use Rattle.word.specs.declared.Told.{Told}

@@ -9,7 +9,7 @@ use lib.ListN.{length, getD}
 use borrow.Author.Tests.{eqb-true, not-false}
 use Rattle.counts.specs.Slots.{mapWith}
 use Rattle.counts.proofs.Tests.{both}
-use Rattle.trailer.specs.declared.Profile.{Profile}
+use Rattle.profile.specs.declared.Profile.{Profile}
 use Rattle.handshake.specs.declared.Transfer.{Transfer}
 use Rattle.handshake.specs.Transfer.{patience, noTransfer, openB}
 use Rattle.handshake.specs.Left.{idleB, leftB}

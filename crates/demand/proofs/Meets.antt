@@ -4,7 +4,7 @@ use mathlib.Core.Path.{_≡_, refl, ap}
 use mathlib.Core.Bool.{Bool, true, false}
 use lib.Dec.{eqb}
 use Rattle.counts.specs.Choice.{if_then_else_}
-use Rattle.trailer.specs.declared.Profile.{Profile}
+use Rattle.profile.specs.declared.Profile.{Profile}
 use Rattle.handshake.specs.declared.Edge.{Edge}
 use Rattle.handshake.specs.declared.Edge.the-variants.{Keep, Drop, Carry}
 use Rattle.handshake.specs.Edges.{riseOf, fallOf, waitOf}
@@ -13,7 +13,7 @@ use Rattle.drive.specs.declared.Body.{Body}
 use Rattle.drive.specs.declared.State.{State}
 use Rattle.drive.specs.State.{stateOf}
 use Rattle.drive.specs.Status.{calmB}
-use Rattle.drive.specs.Time as time
+use Rattle.rules.specs.Time as time
 use Rattle.word.specs.declared.Told.{Told}
 use Rattle.word.specs.declared.Told.the-variants.{Nothing, Word}
 use Rattle.word.specs.Rules.{carryOf}

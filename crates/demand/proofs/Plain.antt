@@ -6,7 +6,7 @@ use mathlib.Core.Bool.{Bool, true, false}
 use mathlib.Core.List.{List, [], _∷_}
 use lib.Dec.{eqb}
 use borrow.Author.Tests.{leb-true, eqb-true, eqb-false}
-use Rattle.trailer.specs.declared.Profile.{Profile}
+use Rattle.profile.specs.declared.Profile.{Profile}
 use Rattle.handshake.specs.Transfer.{noTransfer}
 use Rattle.handshake.specs.Edges.{waitOf}
 use Rattle.drive.specs.declared.Body.{Body}
@@ -14,7 +14,7 @@ use Rattle.drive.specs.declared.State.{State}
 use Rattle.drive.specs.State.{stateOf}
 use Rattle.drive.specs.Faults.{latchBit}
 use Rattle.drive.specs.Status.{calmB, completeB}
-use Rattle.drive.specs.Time.{passBody, passOf}
+use Rattle.rules.specs.Time.{passBody, passOf}
 use Rattle.drive.proofs.Facts.{parts}
 use Rattle.unit.specs.declared.Lines.{Lines}
 use Rattle.unit.proofs.Facts.{Selected, writes, reads}

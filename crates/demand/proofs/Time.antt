@@ -11,7 +11,7 @@ use Rattle.pack.specs.Packs.{noPack}
 use Rattle.drive.specs.declared.State.{State}
 use Rattle.drive.specs.State.{blankState}
 use Rattle.drive.specs.Status.{completeB}
-use Rattle.drive.specs.Time as time
+use Rattle.rules.specs.Time as time
 use Rattle.keeps.proofs.Time.{complete-after}
 use Rattle.record.specs.declared.Chain.{Chain}
 use Rattle.record.specs.Record.{slotPack, slotState}

@@ -5,9 +5,9 @@ use mathlib.Core.List.{List, [], _∷_}
 use lib.Dec.{ltb, leb, eqb}
 use Rattle.counts.specs.Bytes.{bit}
 use Rattle.counts.specs.Tests.{allOf}
-use Rattle.trailer.specs.declared.Profile.{Profile}
-use Rattle.trailer.specs.General.{soft}
-use Rattle.trailer.specs.Valid.{sectorOk}
+use Rattle.profile.specs.declared.Profile.{Profile}
+use Rattle.profile.specs.General.{soft}
+use Rattle.profile.specs.Valid.{sectorOk}
 use Rattle.drive.specs.declared.Latched.{Latched}
 use Rattle.drive.specs.declared.Arm.{Arm}
 use Rattle.drive.specs.declared.Timers.{Timers}

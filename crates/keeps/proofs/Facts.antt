@@ -4,7 +4,7 @@ use mathlib.Core.Bool.{Bool, true, false, not, false≢true}
 use borrow.Author.Tests.{eqb-true, eq-eqb}
 use Rattle.counts.specs.Choice.{if_then_else_}
 use Rattle.counts.proofs.Tests.{each, all}
-use Rattle.trailer.specs.declared.Profile.{Profile}
+use Rattle.profile.specs.declared.Profile.{Profile}
 use Rattle.handshake.specs.Left.{noneB}
 use Rattle.drive.specs.declared.State.{State}
 use Rattle.drive.specs.Limits.{limitsB}

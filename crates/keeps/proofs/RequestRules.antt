@@ -8,8 +8,8 @@ use borrow.Author.Tests.{ltb-true, leb-true, eqb-true, eqb-false, lt-ltb, eq-eqb
 use Rattle.counts.specs.declared.Head.{Head}
 use Rattle.counts.proofs.Tests.{both, each, all}
 use Rattle.counts.proofs.Choice.{by-test}
-use Rattle.trailer.specs.declared.Profile.{Profile}
-use Rattle.trailer.specs.Valid.{validB}
+use Rattle.profile.specs.declared.Profile.{Profile}
+use Rattle.profile.specs.Valid.{validB}
 use Rattle.handshake.specs.declared.Edge.{Edge}
 use Rattle.handshake.specs.Transfer.{taking, responding, wordBits, noTransfer, respondingWith, openB}
 use Rattle.handshake.specs.Edges.{takenOf, putOutOf, riseOf, loweredOf, fallOf}
@@ -18,9 +18,10 @@ use Rattle.drive.specs.declared.State.{State}
 use Rattle.drive.specs.State.{stateOf}
 use Rattle.drive.specs.Faults.{latchOf}
 use Rattle.drive.specs.Status.{calmB, completeB}
-use Rattle.drive.specs.Gates.{usableTests, usableB}
-use Rattle.drive.specs.Time.{droppedOf}
-use Rattle.drive.proofs.Facts.{parts, whole, usable}
+use Rattle.gates.specs.Gates.{usableTests, usableB}
+use Rattle.rules.specs.Time.{droppedOf}
+use Rattle.drive.proofs.Facts.{parts, whole}
+use Rattle.gates.proofs.Facts.{usable}
 use Rattle.word.specs.declared.Told.{Told}
 use Rattle.word.specs.declared.Told.the-variants.{Nothing, Word}
 use Rattle.word.specs.Rules.{carryOf}

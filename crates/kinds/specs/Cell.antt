@@ -4,7 +4,7 @@ use mathlib.Core.Bool.{not}
 use lib.Dec.{leb, eqb}
 use Rattle.counts.specs.declared.Position.{Position}
 use Rattle.counts.specs.Choice.{if_then_else_}
-use Rattle.drive.specs.Cell.{placeOf}
+use Rattle.gates.specs.Cell.{placeOf}
 use Rattle.event.specs.declared.Answer.the-variants.{Unselected, Inhibited, PastTrack}
 use Rattle.unit.specs.declared.Lines.{Lines}
 use Rattle.decision.specs.declared.Change.the-variants as change

@@ -7,7 +7,8 @@ use Rattle.drive.specs.declared.Outcome.the-variants as outcome
 use Rattle.drive.specs.declared.Ruled.{Ruled}
 use Rattle.drive.specs.declared.State.{State}
 use Rattle.pack.specs.declared.Pack.{Pack}
-use Rattle.drive.specs.Heads.{metOf, leftOf}
+use Rattle.rules.specs.Heads.{metOf}
+use Rattle.rules.specs.Left.{leftOf}
 use Rattle.event.specs.declared.Answer.{Answer}
 use Rattle.event.specs.declared.Answer.the-variants.{Unselected, Fault}
 use Rattle.unit.specs.declared.Lines.{Lines}

@@ -4,8 +4,8 @@ use mathlib.Core.Bool.{false, not}
 use lib.Dec.{eqb}
 use Rattle.counts.specs.declared.Head.{Head}
 use Rattle.counts.specs.Choice.{if_then_else_}
-use Rattle.drive.specs.Heads.{metOf}
-use Rattle.drive.specs.Gates.{writeRises, readRises, writeFalls, readFalls}
+use Rattle.rules.specs.Heads.{metOf}
+use Rattle.gates.specs.Gates.{writeRises, readRises, writeFalls, readFalls}
 use Rattle.unit.specs.declared.Lines.{Lines}
 use Rattle.unit.specs.Request.{requestRises, requestFalls}
 use Rattle.decision.specs.declared.Seen.{Seen}

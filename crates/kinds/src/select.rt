@@ -6,9 +6,10 @@ use decision::Seen;
 use drive::Outcome;
 use drive::Ruled;
 use drive::State;
-use drive::heads;
 use event::Answer;
 use pack::Pack;
+use rules::heads;
+use rules::left;
 use unit::Lines;
 ghost use mathlib.Core.Path.{_≡_};
 ghost use Rattle.kinds.specs.Select.{eitherAnswer, leftAlone, bothOf, movedOf};
@@ -61,12 +62,12 @@ pub fn moved(d: Seen, l: Lines, m: Lines, p: Pack, s: State) -> Decision
     if decision::fitted(p) {
         let entered = heads::meets(profile, s, h);
         if d.on {
-            return both(l.select, heads::left(left), entered, m);
+            return both(l.select, left::left(left), entered, m);
         }
         return decision::ruled(m, entered);
     }
     if d.on {
-        return left_alone(l.select, heads::left(left), m);
+        return left_alone(l.select, left::left(left), m);
     }
     decision::heard(m, false)
 }

@@ -12,8 +12,8 @@ use Rattle.pack.specs.declared.read.Answer.the-variants.{Whole}
 use Rattle.pack.specs.Read.{readAll}
 use Rattle.drive.specs.declared.Outcome.{Outcome}
 use Rattle.drive.specs.declared.Outcome.the-variants.{Done, Inhibited, Fault}
-use Rattle.drive.specs.Heads.{leftOf}
-use Rattle.drive.specs.Time as time
+use Rattle.rules.specs.Left.{leftOf}
+use Rattle.rules.specs.Time as time
 use Rattle.event.specs.declared.Answer.{Answer}
 use Rattle.event.specs.declared.Answer.the-variants as answer
 use Rattle.event.specs.Answer.{numberOf}

@@ -17,8 +17,8 @@ use Rattle.drive.specs.declared.Outcome.{Outcome}
 use Rattle.drive.specs.declared.Outcome.the-variants.{Done, Inhibited, Fault}
 use Rattle.drive.specs.declared.Ruled.{Ruled}
 use Rattle.drive.specs.State.{blankState}
-use Rattle.drive.specs.Gates.{readFalls}
-use Rattle.drive.specs.Heads.{leftOf}
+use Rattle.gates.specs.Gates.{readFalls}
+use Rattle.rules.specs.Left.{leftOf}
 use Rattle.event.specs.declared.Answer.the-variants as answer
 use Rattle.event.specs.declared.Event.{Event}
 use Rattle.event.specs.declared.Event.the-variants.{Select, Heads, WriteGate, ReadGate, Data, Request, Pass, Cell, Condition}

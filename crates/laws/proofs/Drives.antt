@@ -12,8 +12,8 @@ use Rattle.counts.specs.Choice.{if_then_else_}
 use Rattle.counts.specs.Slots.{mapWith, allWith}
 use Rattle.counts.proofs.Choice.{by-test}
 use Rattle.counts.proofs.Tests.{both, join, within-both}
-use Rattle.trailer.specs.Valid.{validB}
-use Rattle.trailer.proofs.Facts.{ranges}
+use Rattle.profile.specs.Valid.{validB}
+use Rattle.profile.proofs.Facts.{ranges}
 use Rattle.pack.specs.declared.Pack.{Pack}
 use Rattle.pack.specs.Packs.{noPack}
 use Rattle.drive.specs.declared.State.{State}

@@ -12,13 +12,13 @@ use Rattle.counts.specs.Choice.{if_then_else_}
 use Rattle.counts.specs.Slots.{mapWith}
 use Rattle.counts.proofs.Choice.{by-test}
 use Rattle.counts.proofs.Tests.{each}
-use Rattle.trailer.specs.declared.Profile.{Profile}
-use Rattle.trailer.specs.Valid.{validB}
+use Rattle.profile.specs.declared.Profile.{Profile}
+use Rattle.profile.specs.Valid.{validB}
 use Rattle.drive.specs.declared.State.{State}
 use Rattle.drive.specs.State.{stateOf}
 use Rattle.drive.specs.Faults as faults
-use Rattle.drive.specs.Gates.{writeRises, readRises, writeFalls, readFalls}
-use Rattle.drive.specs.Heads.{leftOf}
+use Rattle.gates.specs.Gates.{writeRises, readRises, writeFalls, readFalls}
+use Rattle.rules.specs.Left.{leftOf}
 use Rattle.event.specs.declared.Decoded.{Decoded}
 use Rattle.event.specs.declared.Decoded.the-variants.{Is, Unknown, Range}
 use Rattle.event.specs.Decode.{decodeOf}

@@ -7,7 +7,7 @@ use lib.Dec.{eqb}
 use Rattle.counts.specs.declared.Head.{Head}
 use Rattle.counts.specs.declared.Micros.{Micros}
 use Rattle.counts.specs.Choice.{if_then_else_}
-use Rattle.trailer.specs.declared.Profile.{Profile}
+use Rattle.profile.specs.declared.Profile.{Profile}
 use Rattle.handshake.specs.declared.Edge.{Edge}
 use Rattle.handshake.specs.declared.Edge.the-variants.{Keep, Drop, Carry}
 use Rattle.handshake.specs.Transfer.{openB}
@@ -18,9 +18,10 @@ use Rattle.drive.specs.declared.Outcome.the-variants.{Done, Inhibited, Fault}
 use Rattle.drive.specs.declared.Ruled.{Ruled}
 use Rattle.drive.specs.State.{ruled}
 use Rattle.drive.specs.Status.{attentionB, calmB}
-use Rattle.drive.specs.Gates.{usableB, writeRises, readRises, readFalls}
-use Rattle.drive.specs.Heads.{headChange, metOf, leftOf}
-use Rattle.drive.specs.Time.{passBody, heldOf, passOf}
+use Rattle.gates.specs.Gates.{usableB, writeRises, readRises, readFalls}
+use Rattle.rules.specs.Heads.{headChange, metOf}
+use Rattle.rules.specs.Left.{leftOf}
+use Rattle.rules.specs.Time.{passBody, heldOf, passOf}
 use Rattle.command.specs.declared.Effect.{Effect}
 use Rattle.command.specs.declared.Effect.the-variants.{Fails, Status, Configuration, Does}
 use Rattle.command.specs.Effect.{effectOf}

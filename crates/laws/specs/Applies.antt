@@ -9,8 +9,9 @@ use Rattle.pack.specs.declared.Pack.{Pack}
 use Rattle.drive.specs.declared.State.{State}
 use Rattle.drive.specs.declared.Outcome.{Outcome}
 use Rattle.drive.specs.declared.Outcome.the-variants.{Done, Inhibited, Fault}
-use Rattle.drive.specs.Heads.{metOf, leftOf}
-use Rattle.drive.specs.Time as time
+use Rattle.rules.specs.Heads.{metOf}
+use Rattle.rules.specs.Left.{leftOf}
+use Rattle.rules.specs.Time as time
 use Rattle.event.specs.declared.Event.{Event}
 use Rattle.event.specs.declared.Event.the-variants.{Select, Heads, WriteGate, ReadGate, Data, Request, Pass, Cell, Condition}
 use Rattle.record.specs.declared.Chain.{Chain}

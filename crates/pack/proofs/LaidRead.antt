@@ -12,11 +12,11 @@ use lib.Seq.{getD-drop, take-at, length-take-le, drop-drop}
 use Rattle.counts.specs.declared.Place.{Place}
 use Rattle.counts.specs.Choice.{if_then_else_}
 use Rattle.counts.specs.Bytes.{Bytes}
-use Rattle.trailer.specs.declared.Profile.{Profile}
-use Rattle.trailer.specs.Profile.{mediumOf}
+use Rattle.profile.specs.declared.Profile.{Profile}
+use Rattle.profile.specs.Profile.{mediumOf}
 use Rattle.trailer.specs.Bytes.{trailerOf}
-use Rattle.trailer.specs.Valid.{validB}
-use Rattle.trailer.proofs.Facts.{ranges}
+use Rattle.profile.specs.Valid.{validB}
+use Rattle.profile.proofs.Facts.{ranges}
 use Rattle.trailer.proofs.RoundTrip.{laid-read}
 use Rattle.pack.specs.declared.Pack.{Pack}
 use Rattle.pack.specs.declared.Refusal.{Refusal}

@@ -5,10 +5,10 @@ use mathlib.Core.List.{List, _++_}
 use Prim.Native.Nat.{ℕ, _+_, _≤_, _<_}
 use borrow.Author.Tests.{lt-ltb, le-ltb}
 use lib.ListN.{length, take, drop, replicate}
-use Rattle.trailer.specs.declared.Profile.{Profile}
-use Rattle.trailer.specs.Profile.{mediumOf}
+use Rattle.profile.specs.declared.Profile.{Profile}
+use Rattle.profile.specs.Profile.{mediumOf}
 use Rattle.trailer.specs.Bytes.{trailerOf}
-use Rattle.trailer.specs.Valid.{validB}
+use Rattle.profile.specs.Valid.{validB}
 use Rattle.pack.specs.declared.Refusal.the-variants.{Field, Large, Room}
 use Rattle.pack.specs.declared.lay.Laid.{Laid}
 use Rattle.pack.specs.declared.lay.Laid.the-variants.{Done, Refused}

@@ -7,9 +7,9 @@ use native.Mathlib.Omega.{arith}
 use borrow.Author.Tests.{le-ltb, eq-eqb, lt-leb}
 use lib.ListN.{length, length-append}
 use lib.Seq.{drop-at, take-at}
-use Rattle.trailer.specs.Profile.{mediumOf}
+use Rattle.profile.specs.Profile.{mediumOf}
 use Rattle.trailer.specs.Bytes.{trailerOf}
-use Rattle.trailer.specs.Valid.{validB}
+use Rattle.profile.specs.Valid.{validB}
 use Rattle.trailer.proofs.RoundTrip.{read-laid}
 use Rattle.counts.proofs.Bytes.{four-back}
 use Rattle.pack.specs.declared.Pack.{Pack}

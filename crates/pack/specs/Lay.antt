@@ -5,10 +5,11 @@ use mathlib.Core.Bool.{not}
 use lib.ListN.{length, replicate, drop}
 use lib.Dec.{ltb}
 use Rattle.counts.specs.Choice.{if_then_else_}
-use Rattle.trailer.specs.declared.Profile.{Profile}
-use Rattle.trailer.specs.Profile.{trailerLength, mediumOf}
+use Rattle.profile.specs.declared.Profile.{Profile}
+use Rattle.profile.specs.Profile.{mediumOf}
+use Rattle.trailer.specs.Form.{trailerLength}
 use Rattle.trailer.specs.Bytes.{trailerOf}
-use Rattle.trailer.specs.Valid.{validB}
+use Rattle.profile.specs.Valid.{validB}
 use Rattle.pack.specs.declared.Refusal.the-variants.{Field, Large, Room}
 use Rattle.pack.specs.declared.lay.Laid.{Laid}
 use Rattle.pack.specs.declared.lay.Laid.the-variants.{Done, Refused}

@@ -6,10 +6,11 @@ use lib.ListN.{length, take, drop, set}
 use lib.Dec.{ltb, leb, eqb}
 use Rattle.counts.specs.Choice.{if_then_else_}
 use Rattle.counts.specs.Bytes.{one, four}
-use Rattle.trailer.specs.declared.Profile.{Profile}
-use Rattle.trailer.specs.Profile.{trailerLength, formOne, mediumOf}
-use Rattle.trailer.specs.Fields.{profileOf}
-use Rattle.trailer.specs.Valid.{validB, zerosB}
+use Rattle.profile.specs.declared.Profile.{Profile}
+use Rattle.profile.specs.Profile.{mediumOf}
+use Rattle.trailer.specs.Form.{trailerLength, formOne}
+use Rattle.trailer.specs.Fields.{profileOf, zerosB}
+use Rattle.profile.specs.Valid.{validB}
 use Rattle.pack.specs.declared.Pack.{Pack}
 use Rattle.pack.specs.declared.Refusal.{Refusal}
 use Rattle.pack.specs.declared.Refusal.the-variants.{Short, Distance, Form, Field, Size, Order, Large}

@@ -1,7 +1,7 @@
 // Laying a pack at the start of a lent part.
 use crate::Pack;
 use crate::Refusal;
-use trailer::Profile;
+use profile::Profile;
 ghost use mathlib.Core.Path.{_≡_};
 ghost use Prim.Native.Nat.{_+_, _≤_};
 ghost use mathlib.Core.List.{_++_};
@@ -46,12 +46,12 @@ fn put(buffer: &mut [u8], at: usize, t: [u8; 44])
 pub fn lay(p: Profile, buffer: &mut [u8]) -> Laid
     ensures { λ r. ⌜ (r ≡ laidAnswer p (length (now (buffer .entry)))) × (now (buffer .exit) ≡ laidBytes p (now (buffer .entry))) ⌝ }
 {
-    if !trailer::valid(p) {
+    if !profile::valid::valid(p) {
         return Laid::Refused(Refusal::Field);
     }
     let shape = p.shape;
-    let medium = trailer::medium(shape);
-    let distance = medium + Profile::TRAILER;
+    let medium = profile::medium(shape);
+    let distance = medium + trailer::LENGTH;
     if Pack::LONGEST < distance {
         return Laid::Refused(Refusal::Large);
     }

@@ -3,7 +3,7 @@ pub mod lay;
 pub mod read;
 
 use counts::Place;
-use trailer::Profile;
+use profile::Profile;
 ghost use mathlib.Core.Path.{_≡_};
 ghost use Rattle.pack.specs.Refusal.{numberOf};
 ghost use Rattle.pack.specs.Packs.{noPack};

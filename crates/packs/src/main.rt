@@ -10,10 +10,10 @@ use pack::lay;
 use pack::lay::Laid;
 use pack::read;
 use pack::read::Answer;
+use profile::Profile;
+use profile::Shape;
 use text::Line;
 use text::Scan;
-use trailer::Profile;
-use trailer::Shape;
 ghost use Prim.Native.Nat.{_≤_};
 ghost use lib.ListN.{length};
 

@@ -8,7 +8,7 @@ use Rattle.counts.specs.Choice.{if_then_else_}
 use Rattle.counts.specs.Slots.{mapWith}
 use Rattle.pack.specs.declared.Pack.{Pack}
 use Rattle.drive.specs.declared.State.{State}
-use Rattle.drive.specs.Time as time
+use Rattle.rules.specs.Time as time
 use Rattle.record.specs.declared.Chain.{Chain}
 use Rattle.decision.specs.declared.Change.{Change}
 use Rattle.decision.specs.declared.Change.the-variants.{Nothing, One, Two, Pass}

@@ -4,8 +4,8 @@ use counts::Micros;
 use decision::Change;
 use decision::Decision;
 use drive::State;
-use drive::time;
 use pack::Pack;
+use rules::time;
 ghost use mathlib.Core.Path.{_≡_};
 ghost use Rattle.record.specs.Apply.{putOf, passSlot, changedOf, applied};
 

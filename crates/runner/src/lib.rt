@@ -10,8 +10,8 @@ use libc::STDERR_FILENO;
 use pack::Refusal;
 use pack::lay;
 use pack::read::Answer;
-use trailer::Profile;
-use trailer::Shape;
+use profile::Profile;
+use profile::Shape;
 ghost use mathlib.Core.Path.{_≡_};
 ghost use lib.ListN.{length};
 

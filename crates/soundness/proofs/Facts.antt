@@ -13,14 +13,15 @@ use Rattle.counts.specs.declared.Position.{Position}
 use Rattle.counts.specs.Choice.{if_then_else_}
 use Rattle.counts.specs.Slots.{allWith}
 use Rattle.counts.proofs.Tests.{both, each, within-both}
-use Rattle.trailer.specs.Profile.{mediumOf}
-use Rattle.trailer.specs.Valid.{validB}
+use Rattle.profile.specs.Profile.{mediumOf}
+use Rattle.profile.specs.Valid.{validB}
 use Rattle.pack.specs.declared.Pack.{Pack}
 use Rattle.pack.specs.Packs.{noPack, longest}
 use Rattle.drive.specs.declared.State.{State}
 use Rattle.drive.specs.State.{blankState}
-use Rattle.drive.specs.Cell.{placeOf}
-use Rattle.drive.proofs.Facts.{on-cylinder, usable}
+use Rattle.gates.specs.Cell.{placeOf}
+use Rattle.drive.proofs.Facts.{on-cylinder}
+use Rattle.gates.proofs.Facts.{usable}
 use Rattle.unit.specs.declared.Lines.{Lines}
 use Rattle.unit.specs.Sound as unit
 use Rattle.unit.proofs.Facts.{Selected, selected, writes, reads}

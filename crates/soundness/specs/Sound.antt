@@ -6,8 +6,9 @@ use lib.Dec.{ltb, eqb}
 use Rattle.counts.specs.Choice.{if_then_else_}
 use Rattle.counts.specs.Slots.{allWith}
 use Rattle.counts.specs.Tests.{allOf}
-use Rattle.trailer.specs.Profile.{trailerLength, mediumOf}
-use Rattle.trailer.specs.Valid.{validB}
+use Rattle.profile.specs.Profile.{mediumOf}
+use Rattle.trailer.specs.Form.{trailerLength}
+use Rattle.profile.specs.Valid.{validB}
 use Rattle.pack.specs.declared.Pack.{Pack}
 use Rattle.pack.specs.Packs.{longest}
 use Rattle.drive.specs.declared.State.{State}

@@ -1,8 +1,8 @@
 // When the chain record is one that the rules leave.
 use drive::State;
 use pack::Pack;
+use profile::Profile;
 use record::Chain;
-use trailer::Profile;
 use unit::Lines;
 use unit::sound;
 ghost use mathlib.Core.Path.{_≡_};
@@ -14,7 +14,7 @@ fn pack_ok(p: Pack, slot: u8, at: usize) -> bool
     ensures { λ r. ⌜ r ≡ packB p slot at ⌝ }
 {
     let profile = p.profile;
-    (profile.slot == slot) & (p.place.0 as usize == at) & trailer::valid(profile)
+    (profile.slot == slot) & (p.place.0 as usize == at) & profile::valid::valid(profile)
 }
 
 // Whether a slot's pack may stand, and where the packs up to it end.
@@ -35,7 +35,7 @@ fn place(p: Pack, slot: u8, at: usize) -> Placed
     let shape = p.profile.shape;
     Placed {
         ok: pack_ok(p, slot, at),
-        end: p.place.0 as usize + trailer::medium(shape) + Profile::TRAILER,
+        end: p.place.0 as usize + profile::medium(shape) + trailer::LENGTH,
     }
 }
 
@@ -88,7 +88,7 @@ pub fn is_sound(c: Chain) -> bool
     if !sound::lines_ok(l) {
         return false;
     }
-    if c.length.0 > 2_147_483_647 {
+    if c.length.0 as usize > Pack::LONGEST {
         return false;
     }
     if !places_ok(packs, c.length.0) {

@@ -94,7 +94,7 @@ fn grown(s: Scan, byte: u8) -> Scan
 }
 
 // The line with one byte more.
-pub fn fed(s: Scan, byte: u8) -> Scan
+fn fed(s: Scan, byte: u8) -> Scan
     ensures { λ r. ⌜ r ≡ fedOf s byte ⌝ }
 {
     if byte == b' ' {

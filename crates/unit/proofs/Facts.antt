@@ -6,11 +6,11 @@ use borrow.Author.Tests.{eqb-true, ne-eqb}
 use lib.Dec.{eqb}
 use Rattle.counts.specs.Choice.{if_then_else_}
 use Rattle.counts.proofs.Tests.{each}
-use Rattle.trailer.specs.declared.Profile.{Profile}
+use Rattle.profile.specs.declared.Profile.{Profile}
 use Rattle.handshake.specs.Left.{leftB}
 use Rattle.drive.specs.declared.State.{State}
 use Rattle.drive.specs.Status.{attentionB}
-use Rattle.drive.specs.Gates.{usableB}
+use Rattle.gates.specs.Gates.{usableB}
 use Rattle.drive.specs.Limits.{limitsB}
 use Rattle.unit.specs.declared.Lines.{Lines}
 use Rattle.unit.specs.Sound.{writingTests, writingB, readingTests, readingB, selectedTests, selectedB, soundB}

@@ -1,7 +1,7 @@
 -- "Handshake .., selected drive only": what request's edges do to a drive.
 use mathlib.Core.Bool.{Bool, _||_}
 use lib.Dec.{eqb}
-use Rattle.trailer.specs.declared.Profile.{Profile}
+use Rattle.profile.specs.declared.Profile.{Profile}
 use Rattle.handshake.specs.declared.Transfer.{Transfer}
 use Rattle.handshake.specs.declared.Edge.{Edge}
 use Rattle.handshake.specs.declared.Edge.the-variants.{Keep, Drop, Carry}
@@ -13,7 +13,7 @@ use Rattle.drive.specs.declared.Outcome.the-variants.{Done, Fault}
 use Rattle.drive.specs.declared.Ruled.{Ruled}
 use Rattle.drive.specs.State.{stateOf, ruled}
 use Rattle.drive.specs.Status.{calmB}
-use Rattle.drive.specs.Time.{droppedOf}
+use Rattle.rules.specs.Time.{droppedOf}
 use Rattle.word.specs.declared.Carried.{Carried}
 use Rattle.word.specs.declared.Told.{Told}
 use Rattle.word.specs.declared.Told.the-variants.{Nothing, Word}

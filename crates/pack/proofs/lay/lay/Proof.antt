@@ -4,7 +4,7 @@ use mathlib.Core.Bool.{true}
 use native.Mathlib.Omega.{arith}
 use borrow.Author.Needs.{needs}
 use borrow.Author.Tests.{not-true, not-false}
-use Rattle.trailer.specs.Valid.{validB}
+use Rattle.profile.specs.Valid.{validB}
 use Rattle.pack.proofs.Laying.{field, large, room, done, laid-all}
 use Rattle.pack.proofs.lay.lay.Statement.{statement}
 use Rattle.pack.proofs.lay.lay.Tie as tie
