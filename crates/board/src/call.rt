@@ -31,7 +31,7 @@ fn said(file: &mut [u8], deed: Deed) -> u32
     ensures { λ r. ⌜ Coded deed (now (file .entry)) r (now (file .exit)) ⌝ }
 {
     let answer = crate::obey(file, deed);
-    event::number(answer) as u32 + event::value(answer) as u32 * 256
+    event::numbers::number(answer) as u32 + event::numbers::value(answer) as u32 * 256
 }
 
 // An event, by its three numbers, judged and done on the file; the record is still to change.

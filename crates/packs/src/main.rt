@@ -175,9 +175,9 @@ fn step(file: &mut [u8; ROOM], what: u16, place: u16, value: u8) {
 fn line(rest: &[u8], file: &mut [u8; ROOM]) -> usize
     ensures { λ r. ⌜ r ≤ length (now (rest .entry)) ⌝ }
 {
-    let stop = text::scan_on(rest, Scan::fresh());
+    let stop = text::read::scan_on(rest, Scan::fresh());
     let end = stop.at;
-    let said = text::finish(stop.scan);
+    let said = text::read::finish(stop.scan);
     match said {
         Line::Numbers(what, place, value) => step(file, what, place, (value % 256) as u8),
         Line::Unreadable => {

@@ -36,8 +36,8 @@ fn step(c: Chain, file: &mut [u8], kind: u16, a: u16, b: u16) -> Told {
     let said = s.answer;
     Told {
         chain,
-        answer: event::number(said),
-        value: event::value(said),
+        answer: event::numbers::number(said),
+        value: event::numbers::value(said),
     }
 }
 
@@ -98,18 +98,18 @@ fn answered(out: &mut [u8], file: &mut [u8], r: Run, scan: Scan) -> Run
 {
     let lines = std::num::wrapping_add_u64(r.lines, 1);
     let c = r.chain;
-    let t = outcome(c, file, text::finish(scan));
+    let t = outcome(c, file, text::read::finish(scan));
     let chain = t.chain;
     let sum = fresh::line_sum(chain);
     let at = r.at;
-    let n = text::put_answer(&mut out[at..], lines, t.answer, t.value, sum);
+    let n = text::put::put_answer(&mut out[at..], lines, t.answer, t.value, sum);
     let q = Run {
         chain,
         lines,
         at: at + n,
         open: r.open,
     };
-    if q.at > 65536 - text::LONGEST {
+    if q.at > 65536 - text::put::LONGEST {
         return flushed(out, q);
     }
     q
@@ -124,7 +124,7 @@ fn fed_all(block: &[u8], out: &mut [u8], file: &mut [u8], first: Fed) -> Fed
     let mut scan = first.scan;
     let mut i = 0;
     while i < block.len() {
-        let stop = text::scan_on(&block[i..], scan);
+        let stop = text::read::scan_on(&block[i..], scan);
         let at = i + stop.at;
         if at >= block.len() {
             let s = stop.scan;
@@ -209,7 +209,7 @@ fn last_line(out: &mut [u8], file: &mut [u8], f: Fed) -> Run
 {
     let r = f.run;
     let s = f.scan;
-    if text::has_byte(s) {
+    if text::read::has_byte(s) {
         return answered(out, file, r, s);
     }
     r
