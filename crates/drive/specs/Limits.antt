@@ -52,7 +52,7 @@ limitTests p b =
     timersB (b .timers) ∷
     latchedB (b .latched) ∷
     sectorOk (soft (p .general)) (b .sector .0) ∷
-    leb (b .head .0) 15 ∷
+    leb (b .head .0) 15 ∷  -- "head ≤ 15"
     motorB (b .motor) (b .timers .busy .0) ∷
     leb (b .reading) 1 ∷
     leb (b .writing) 1 ∷ []

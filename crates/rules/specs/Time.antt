@@ -27,7 +27,7 @@ passBody us b =
     with-motor (motorAfter (b .motor) (b .timers .busy) us)
     (with-timers (record { busy = lessOf (b .timers .busy) us; head = lessOf (b .timers .head) us }) b)
 
--- "bit 6, dropped"
+-- "bit 6, dropped. Dropping lowers acknowledge."
 abbrev pub droppedOf : Body → State
 droppedOf b = stateOf (latchBit 6 b) noTransfer
 
