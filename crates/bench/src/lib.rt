@@ -6,6 +6,7 @@ pub mod tally;
 
 use board::Stepped;
 use chain::fresh;
+use chain::shown;
 use pack::lay;
 use record::Chain;
 use trailer::Profile;
@@ -97,7 +98,7 @@ pub fn meet(bench: Bench, file: &mut [u8; ROOM], kind: u32, a: u32, b: u32) -> M
     let told = Told {
         answer: event::number(answer),
         value: event::value(answer),
-        sum: fresh::line_sum(chain),
+        sum: shown::line_sum(chain),
     };
     let after = Bench { chain, lent };
     Met { bench: after, told }
