@@ -6,6 +6,7 @@ pub mod tally;
 
 use board::Stepped;
 use chain::fresh;
+use chain::shown;
 use pack::lay;
 use profile::Profile;
 use record::Chain;
@@ -95,9 +96,9 @@ pub fn meet(bench: Bench, file: &mut [u8; ROOM], kind: u32, a: u32, b: u32) -> M
     let chain = s.chain;
     let answer = s.answer;
     let told = Told {
-        answer: event::numbers::number(answer),
-        value: event::numbers::value(answer),
-        sum: fresh::line_sum(chain),
+        answer: event::number(answer),
+        value: event::value(answer),
+        sum: shown::line_sum(chain),
     };
     let after = Bench { chain, lent };
     Met { bench: after, told }

@@ -4,7 +4,7 @@ use crate::ROOM;
 use crate::Told;
 use crate::tally;
 use crate::tally::Tally;
-use chain::fresh;
+use chain::shown;
 use record::Chain;
 
 // told: what the last event came to. good: what came before it, within a word, came as it must.
@@ -82,7 +82,7 @@ fn fallen(p: Play, file: &mut [u8; ROOM], open: u8, last: bool) -> Play {
 // The first bits of a word of seventeen.
 pub fn send(p: Play, file: &mut [u8; ROOM], word: u32, count: u32) -> Play {
     let mut q = found(p, true);
-    let mut before = fresh::line_sum(p.bench.chain);
+    let mut before = shown::line_sum(p.bench.chain);
     let open = open_sum(before);
     let mut n = word;
     let mut left = count;
@@ -105,7 +105,7 @@ fn put_out(p: Play, file: &mut [u8; ROOM], bit: u32, open: u8) -> Play {
 // A response of seventeen bits, which must be this one.
 pub fn take(p: Play, file: &mut [u8; ROOM], word: u32) -> Play {
     let mut q = found(p, true);
-    let open = open_sum(fresh::line_sum(p.bench.chain));
+    let open = open_sum(shown::line_sum(p.bench.chain));
     let mut n = word;
     let mut left: u32 = 17;
     while left > 0 {

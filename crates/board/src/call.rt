@@ -9,7 +9,7 @@ ghost use mathlib.Core.Path.{_≡_};
 ghost use lib.ListN.{length};
 ghost use Rattle.pack.specs.Refusal.{laidNumber};
 ghost use Rattle.pack.specs.Lay.{laidAnswer, laidBytes};
-ghost use Rattle.chain.specs.Fresh.{lineSum};
+ghost use Rattle.chain.specs.Shown.{lineSum};
 ghost use Rattle.calls.specs.Fit.{fitOf};
 ghost use Rattle.calls.specs.Words.{wordOf};
 ghost use Rattle.calls.specs.Packs.{packsOf, packOf};
@@ -103,7 +103,7 @@ pub extern "C" fn esdi_lines(c: &mut Chain) -> u8
     ensures { λ r. ⌜ (now (c .exit) ≡ now (c .entry)) × (r ≡ lineSum (now (c .entry))) ⌝ }
 {
     let old = *c;
-    chain::fresh::line_sum(old)
+    chain::shown::line_sum(old)
 }
 
 // The lent record filled with marks.

@@ -23,7 +23,7 @@ use bench::tally::Tally;
 use bench::tally::one_more;
 use bench::tally::say;
 use bench::tally::say_number;
-use chain::fresh;
+use chain::shown;
 use script::fields;
 use script::words;
 use script::words::Number;
@@ -159,7 +159,7 @@ fn answers(line: &[u8], response: u32, sum: u8) -> bool {
 fn plainly(p: Play, line: &[u8], word: u32) -> Play {
     let a = plain::plain(p.bench.chain, word);
     let q = play::with_chain(p, a.chain);
-    if answers(line, a.response, fresh::line_sum(a.chain)) {
+    if answers(line, a.response, shown::line_sum(a.chain)) {
         return q;
     }
     play::found(q, amiss(line, b"not so by the plain word rules"))

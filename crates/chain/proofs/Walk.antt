@@ -25,7 +25,8 @@ use Rattle.decision.specs.declared.Seen.{Seen}
 use Rattle.record.specs.Record.{slotPack, slotState, lookOf}
 use Rattle.decision.specs.Decision.{fittedB}
 use Rattle.decision.specs.Decision.{sayOf, heardOf, ruledOf}
-use Rattle.kinds.specs.Signals.{with-select, with-heads, with-writegate, with-readgate, with-command, with-request, writeGateOf, readGateOf, requestOf, headsOf}
+use Rattle.unit.specs.Lines.{with-select, with-heads, with-writegate, with-readgate, with-command, with-request}
+use Rattle.signals.specs.Signals.{writeGateOf, readGateOf, requestOf, headsOf}
 use Rattle.kinds.specs.Select.{leftAlone, bothOf, movedOf}
 use Rattle.chain.specs.Decide.{selectOf}
 use Rattle.kinds.specs.Passing.{passOf}

@@ -7,7 +7,8 @@ use Rattle.event.specs.declared.Event.the-variants.{Select, Heads, WriteGate, R
 use Rattle.decision.specs.declared.Decision.{Decision}
 use Rattle.decision.specs.declared.Seen.{Seen}
 use Rattle.decision.specs.Decision.{heardOf}
-use Rattle.kinds.specs.Signals.{with-select, writeGateOf, readGateOf, dataOf, requestOf, headsOf}
+use Rattle.unit.specs.Lines.{with-select}
+use Rattle.signals.specs.Signals.{writeGateOf, readGateOf, dataOf, requestOf, headsOf}
 use Rattle.kinds.specs.Select.{movedOf}
 use Rattle.kinds.specs.Passing.{passOf}
 use Rattle.kinds.specs.Cell.{cellOf}

@@ -1,6 +1,5 @@
--- The chain of a file that reads, fresh, and the line sum.
+-- The chain of a file that reads, fresh.
 use Prim.Native.Nat.{ℕ}
-use mathlib.Core.Bool.{not}
 use mathlib.Core.List.{List}
 use lib.Dec.{ltb, eqb}
 use lib.ListN.{length, replicate}
@@ -15,10 +14,8 @@ use Rattle.pack.specs.Read.{readAll}
 use Rattle.drive.specs.declared.State.{State}
 use Rattle.drive.specs.State.{freshOf, blankState}
 use Rattle.unit.specs.declared.Lines.{Lines}
-use Rattle.unit.specs.Sum.{sumOf}
 use Rattle.record.specs.declared.Chain.{Chain}
 use Rattle.chain.specs.declared.fresh.Fitted.{Fitted}
-use Rattle.record.specs.Record.{lookOf}
 
 -- "All lines are low."
 abbrev pub lowLines : Lines
@@ -46,7 +43,3 @@ chainOf found n = record {
 
 unfoldable pub fitOf : List ℕ → Fitted
 fitOf file = record { answer = readAll file .answer; chain = chainOf (readAll file) (length file) }
-
--- "and the selected drive's lines as a sum (..; 0 if none)"
-unfoldable pub lineSum : Chain → ℕ
-lineSum c = if not (lookOf c .on) then 0 else sumOf (lookOf c .state)

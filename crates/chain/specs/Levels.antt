@@ -11,7 +11,7 @@ use Rattle.unit.specs.declared.Lines.{Lines}
 use Rattle.unit.specs.Request.{requestRises, requestFalls}
 use Rattle.decision.specs.declared.Seen.{Seen}
 use Rattle.decision.specs.Decision.{doneOf}
-use Rattle.kinds.specs.Signals.{with-select, with-heads, with-writegate, with-readgate, with-command, with-request}
+use Rattle.unit.specs.Lines.{with-select, with-heads, with-writegate, with-readgate, with-command, with-request}
 
 -- "line levels taken"
 abbrev pub linesAfter : Event → Lines → Lines

@@ -1,3 +1,4 @@
 pub mod Decide
 pub mod Fresh
 pub mod Levels
+pub mod Shown

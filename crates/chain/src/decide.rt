@@ -6,7 +6,6 @@ use kinds::cell;
 use kinds::condition;
 use kinds::passing;
 use kinds::select;
-use kinds::signals;
 use record::Chain;
 use record::slots;
 ghost use mathlib.Core.Path.{_≡_};

@@ -1,4 +1,4 @@
-// The fresh chain of a pack file, and what the selected drive shows.
+// The fresh chain of a pack file.
 use counts::Head;
 use counts::Place;
 use drive::State;
@@ -6,13 +6,11 @@ use pack::Pack;
 use pack::read;
 use pack::read::Answer;
 use record::Chain;
-use record::slots;
 use unit::Lines;
-use unit::shows;
 ghost use mathlib.Core.Path.{_≡_};
 ghost use lib.ListN.{length};
 ghost use Rattle.counts.specs.Slots.{mapWith};
-ghost use Rattle.chain.specs.Fresh.{lowLines, freshSlot, blankStates, endOf, fitOf, lineSum};
+ghost use Rattle.chain.specs.Fresh.{lowLines, freshSlot, blankStates, endOf, fitOf};
 
 // A chain, or why its file is refused and where; the chain is then the empty one.
 pub struct Fitted {
@@ -95,16 +93,4 @@ pub fn fit(file: &[u8]) -> Fitted
         length,
     };
     Fitted { answer, chain }
-}
-
-// The selected drive's lines as a sum; 0 if none.
-pub fn line_sum(c: Chain) -> u8
-    ensures { λ r. ⌜ r ≡ lineSum c ⌝ }
-{
-    let d = slots::look(c);
-    if !d.on {
-        return 0;
-    }
-    let s = d.state;
-    shows::sum(s)
 }

@@ -21,7 +21,8 @@ use Rattle.decision.specs.declared.Decision.{Decision}
 use Rattle.decision.specs.declared.Seen.{Seen}
 use Rattle.record.specs.Record.{slotState, lookOf}
 use Rattle.decision.specs.Decision.{heardOf}
-use Rattle.kinds.specs.Signals.{with-command, with-request, dataOf, requestOf}
+use Rattle.unit.specs.Lines.{with-command, with-request}
+use Rattle.signals.specs.Signals.{dataOf, requestOf}
 use Rattle.decision.specs.Deeds.{saidOf, fileAfter}
 use Rattle.kinds.specs.Passing as kinds
 use Rattle.chain.specs.Decide.{decideOf}

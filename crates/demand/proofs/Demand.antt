@@ -28,7 +28,7 @@ use Rattle.event.specs.Answer.{numberOf}
 use Rattle.record.specs.declared.Chain.{Chain}
 use Rattle.record.specs.Record.{slotState, lookOf}
 use Rattle.decision.specs.Decision.{outcomeAnswer}
-use Rattle.kinds.specs.Signals.{with-command, with-request}
+use Rattle.unit.specs.Lines.{with-command, with-request}
 use Rattle.kinds.specs.Passing as kinds
 use Rattle.chain.specs.Decide.{decideOf}
 use Rattle.record.specs.Apply.{putOf, passSlot, changedOf, applied}

@@ -17,7 +17,7 @@ use Rattle.event.specs.Answer.{numberOf}
 use Rattle.record.specs.declared.Chain.{Chain}
 use Rattle.record.specs.Record.{lookOf}
 use Rattle.decision.specs.Decision.{outcomeAnswer}
-use Rattle.kinds.specs.Signals.{with-command}
+use Rattle.unit.specs.Lines.{with-command}
 use Rattle.chain.specs.Decide.{decideOf}
 use Rattle.record.specs.Apply.{putOf, applied}
 use Rattle.soundness.specs.Sound.{soundB}

@@ -20,7 +20,7 @@ use Rattle.gates.proofs.Facts.{usable}
 use Rattle.unit.specs.declared.Lines.{Lines}
 use Rattle.unit.specs.Sound.{lineTests, linesB, soundB}
 use Rattle.unit.proofs.Facts.{selected}
-use Rattle.keeps.proofs.Levels.{with-writegate, with-readgate}
+use Rattle.unit.specs.Lines.{with-writegate, with-readgate}
 use Rattle.keeps.proofs.Facts.{from-selected, sound-parts}
 use Rattle.keeps.proofs.Gates.{not-writing, not-reading, may-write, may-read, flag, write-gate-off, read-gate-off, still-writes, still-reads, neither}
 use Rattle.keeps.proofs.Bodies.{reading-limits, writing-limits, latch-limits}

@@ -31,7 +31,7 @@ use Rattle.unit.specs.declared.Lines.{Lines}
 use Rattle.unit.specs.Request.{afterWord, carriedOut, metOf, gatedB, requestRises, requestFalls}
 use Rattle.unit.specs.Sound.{lineTests, linesB, writingB, readingB, soundB}
 use Rattle.unit.proofs.Facts.{Selected, selected, Reads}
-use Rattle.keeps.proofs.Levels.{with-request}
+use Rattle.unit.specs.Lines.{with-request}
 use Rattle.keeps.proofs.Facts.{from-selected, sound-parts}
 use Rattle.keeps.proofs.Gates.{both-off, not-writing, write-gate-off, read-gate-off, not-complete, still-reads, neither}
 use Rattle.keeps.proofs.Left.{giving-left, none-left}

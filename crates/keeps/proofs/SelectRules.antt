@@ -24,7 +24,7 @@ use Rattle.drive.proofs.Facts.{Parts, whole}
 use Rattle.unit.specs.declared.Lines.{Lines}
 use Rattle.unit.specs.Sound.{lineTests, linesB, writingB, readingB, soundB}
 use Rattle.unit.proofs.Facts.{selected}
-use Rattle.keeps.proofs.Levels.{with-select, with-heads}
+use Rattle.unit.specs.Lines.{with-select, with-heads}
 use Rattle.keeps.proofs.Facts.{from-selected, unselected, from-unselected, sound-parts}
 use Rattle.keeps.proofs.Gates.{both-off, flag, neither}
 use Rattle.keeps.proofs.Left.{none-left, left-none}

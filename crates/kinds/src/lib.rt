@@ -3,4 +3,3 @@ pub mod cell;
 pub mod condition;
 pub mod passing;
 pub mod select;
-pub mod signals;

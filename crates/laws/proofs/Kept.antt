@@ -35,7 +35,7 @@ use Rattle.record.specs.Record.{slotPack, slotState, lookOf}
 use Rattle.decision.specs.Decision.{fittedB}
 use Rattle.chain.specs.Levels.{linesAfter, movesB, ruleOf}
 use Rattle.decision.specs.Decision.{doneOf}
-use Rattle.kinds.specs.Signals.{with-select, with-writegate, with-readgate, with-command, with-request}
+use Rattle.unit.specs.Lines.{with-select, with-writegate, with-readgate, with-command, with-request}
 use Rattle.kinds.specs.Passing.{passOf}
 use Rattle.chain.specs.Decide.{decideOf}
 use Rattle.record.specs.Apply.{putOf, passSlot, changedOf, applied}

@@ -1,5 +1,5 @@
 // Event lines in, answer lines out, in blocks. Bytes are scanned apart from the chain, which moves once a line.
-use chain::fresh;
+use chain::shown;
 use libc::STDIN_FILENO;
 use libc::STDOUT_FILENO;
 use record::Chain;
@@ -100,7 +100,7 @@ fn answered(out: &mut [u8], file: &mut [u8], r: Run, scan: Scan) -> Run
     let c = r.chain;
     let t = outcome(c, file, text::read::finish(scan));
     let chain = t.chain;
-    let sum = fresh::line_sum(chain);
+    let sum = shown::line_sum(chain);
     let at = r.at;
     let n = text::put::put_answer(&mut out[at..], lines, t.answer, t.value, sum);
     let q = Run {

@@ -1,9 +1,9 @@
--- `kinds::signals::head_lines` meets its contract: each return rewrites with the tests that led there.
-use Rattle.kinds.specs.Signals.{headsOf}
+-- `signals::head_lines` meets its contract: each return rewrites with the tests that led there.
+use Rattle.signals.specs.Signals.{headsOf}
 use borrow.Author.Needs.{needs}
 use borrow.Author.Tests.{eq-eqb, ne-eqb, not-true, not-false}
-use Rattle.kinds.proofs.signals.head_lines.Statement.{statement}
-use Rattle.kinds.proofs.signals.head_lines.Tie as tie
+use Rattle.signals.proofs.head_lines.Statement.{statement}
+use Rattle.signals.proofs.head_lines.Tie as tie
 
 heard-requires : tie.Need-heard-requires
 heard-requires c κs = search needs

@@ -1,9 +1,9 @@
--- `chain::fresh::line_sum` meets its contract: each return rewrites with the tests that led there.
-use Rattle.chain.specs.Fresh.{lineSum}
+-- `chain::shown::line_sum` meets its contract: each return rewrites with the tests that led there.
+use Rattle.chain.specs.Shown.{lineSum}
 use borrow.Author.Needs.{needs}
 use borrow.Author.Tests.{not-true, not-false}
-use Rattle.chain.proofs.fresh.line_sum.Statement.{statement}
-use Rattle.chain.proofs.fresh.line_sum.Tie as tie
+use Rattle.chain.proofs.shown.line_sum.Statement.{statement}
+use Rattle.chain.proofs.shown.line_sum.Tie as tie
 
 look-requires : tie.Need-look-requires
 look-requires c κs = search needs

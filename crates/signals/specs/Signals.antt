@@ -7,28 +7,18 @@ use Rattle.counts.specs.Choice.{if_then_else_}
 use Rattle.rules.specs.Heads.{metOf}
 use Rattle.gates.specs.Gates.{writeRises, readRises, writeFalls, readFalls}
 use Rattle.unit.specs.declared.Lines.{Lines}
+use Rattle.unit.specs.Lines.{with-heads, with-writegate, with-readgate, with-command, with-request}
 use Rattle.unit.specs.Request.{requestRises, requestFalls}
 use Rattle.decision.specs.declared.Seen.{Seen}
 use Rattle.decision.specs.declared.Decision.{Decision}
 use Rattle.decision.specs.Decision.{heardOf, ruledOf, doneOf}
 
-abbrev pub with-select : ℕ → Lines → Lines
-with-select x l = record { select = x; heads = l .heads; writegate = l .writegate; readgate = l .readgate; command = l .command; request = l .request }
-
-abbrev pub with-heads : Head → Lines → Lines
-with-heads x l = record { select = l .select; heads = x; writegate = l .writegate; readgate = l .readgate; command = l .command; request = l .request }
-
-abbrev pub with-writegate : ℕ → Lines → Lines
-with-writegate x l = record { select = l .select; heads = l .heads; writegate = x; readgate = l .readgate; command = l .command; request = l .request }
-
-abbrev pub with-readgate : ℕ → Lines → Lines
-with-readgate x l = record { select = l .select; heads = l .heads; writegate = l .writegate; readgate = x; command = l .command; request = l .request }
-
-abbrev pub with-command : ℕ → Lines → Lines
-with-command x l = record { select = l .select; heads = l .heads; writegate = l .writegate; readgate = l .readgate; command = x; request = l .request }
-
-abbrev pub with-request : ℕ → Lines → Lines
-with-request x l = record { select = l .select; heads = l .heads; writegate = l .writegate; readgate = l .readgate; command = l .command; request = x }
+-- kind 1
+unfoldable pub headsOf : Seen → Lines → Head → Decision
+headsOf d l h =
+    if eqb (l .heads .0) (h .0) then heardOf l (d .on)
+    else if not (d .on) then heardOf (with-heads h l) false
+    else ruledOf (with-heads h l) (metOf (d .profile) h (d .state))
 
 -- kind 2
 unfoldable pub writeGateOf : Seen → Lines → ℕ → Decision
@@ -57,10 +47,3 @@ requestOf d l level =
     else if not (d .on) then heardOf (with-request level l) false
     else if eqb level 1 then ruledOf (with-request level l) (requestRises (d .profile) l (d .state))
     else ruledOf (with-request level l) (requestFalls (d .profile) (d .state))
-
--- kind 1
-unfoldable pub headsOf : Seen → Lines → Head → Decision
-headsOf d l h =
-    if eqb (l .heads .0) (h .0) then heardOf l (d .on)
-    else if not (d .on) then heardOf (with-heads h l) false
-    else ruledOf (with-heads h l) (metOf (d .profile) h (d .state))

@@ -9,7 +9,23 @@ use rules::heads;
 use unit::Lines;
 use unit::request;
 ghost use mathlib.Core.Path.{_≡_};
-ghost use Rattle.kinds.specs.Signals.{writeGateOf, readGateOf, dataOf, requestOf, headsOf};
+ghost use Rattle.signals.specs.Signals.{writeGateOf, readGateOf, dataOf, requestOf, headsOf};
+
+pub fn head_lines(d: Seen, l: Lines, h: Head) -> Decision
+    ensures { λ r. ⌜ r ≡ headsOf d l h ⌝ }
+{
+    let mut m = l;
+    m.heads = h;
+    if l.heads.0 == h.0 {
+        return heard(l, d.on);
+    }
+    if !d.on {
+        return heard(m, false);
+    }
+    let p = d.profile;
+    let s = d.state;
+    ruled(m, heads::meets(p, s, h))
+}
 
 pub fn write_gate(d: Seen, l: Lines, level: u8) -> Decision
     ensures { λ r. ⌜ r ≡ writeGateOf d l level ⌝ }
@@ -74,20 +90,4 @@ pub fn transfer_request(d: Seen, l: Lines, level: u8) -> Decision
         return ruled(m, request::rises(p, s, l));
     }
     ruled(m, request::falls(p, s))
-}
-
-pub fn head_lines(d: Seen, l: Lines, h: Head) -> Decision
-    ensures { λ r. ⌜ r ≡ headsOf d l h ⌝ }
-{
-    let mut m = l;
-    m.heads = h;
-    if l.heads.0 == h.0 {
-        return heard(l, d.on);
-    }
-    if !d.on {
-        return heard(m, false);
-    }
-    let p = d.profile;
-    let s = d.state;
-    ruled(m, heads::meets(p, s, h))
 }

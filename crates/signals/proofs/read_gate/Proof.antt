@@ -1,35 +1,35 @@
--- `kinds::signals::write_gate` meets its contract: each return rewrites with the tests that led there.
-use Rattle.kinds.specs.Signals.{writeGateOf}
+-- `signals::read_gate` meets its contract: each return rewrites with the tests that led there.
+use Rattle.signals.specs.Signals.{readGateOf}
 use borrow.Author.Needs.{needs}
 use borrow.Author.Tests.{eq-eqb, ne-eqb, not-true, not-false}
-use Rattle.kinds.proofs.signals.write_gate.Statement.{statement}
-use Rattle.kinds.proofs.signals.write_gate.Tie as tie
+use Rattle.signals.proofs.read_gate.Statement.{statement}
+use Rattle.signals.proofs.read_gate.Tie as tie
 
 heard-requires : tie.Need-heard-requires
 heard-requires c κs = search needs
 
 returns : tie.Need-returns
-unfolding writeGateOf
+unfolding readGateOf
 returns c = simp (eq-eqb _ _ (c .before .if1 .taken), c .heard .ensures)
 
 heard-requires-2 : tie.Need-heard-requires-2
 heard-requires-2 c κs = search needs
 
 returns-2 : tie.Need-returns-2
-unfolding writeGateOf
+unfolding readGateOf
 returns-2 c =
     let b3 = c .before .before .before in
     let b5 = b3 .before .before in
     simp (ne-eqb _ _ (b3 .if1 .left), not-true (b5 .args .d .on) (c .before .if2 .taken), c .heard2 .ensures)
 
-write-rises-requires : tie.Need-write-rises-requires
-write-rises-requires c κs = search needs
+read-rises-requires : tie.Need-read-rises-requires
+read-rises-requires c κs = search needs
 
 ruled-requires : tie.Need-ruled-requires
 ruled-requires c κs = search needs
 
 returns-3 : tie.Need-returns-3
-unfolding writeGateOf
+unfolding readGateOf
 returns-3 c =
     let b2 = c .before .before in
     let b5 = b2 .before .before .before in
@@ -39,12 +39,12 @@ returns-3 c =
       ne-eqb _ _ (b7 .if1 .left),
       not-false (b9 .args .d .on) (b5 .if2 .left),
       eq-eqb _ _ (b2 .if3 .taken),
-      c .before .write-rises .ensures,
+      c .before .read-rises .ensures,
       c .ruled .ensures,
     )
 
-write-falls-requires : tie.Need-write-falls-requires
-write-falls-requires c κs = search needs
+read-falls-requires : tie.Need-read-falls-requires
+read-falls-requires c κs = search needs
 
 done-requires : tie.Need-done-requires
 done-requires c κs = search needs
@@ -53,7 +53,7 @@ ruled-requires-2 : tie.Need-ruled-requires-2
 ruled-requires-2 c κs = search needs
 
 returns-4 : tie.Need-returns-4
-unfolding writeGateOf
+unfolding readGateOf
 returns-4 c =
     let b2 = c .before .before in
     let b3 = b2 .before in
@@ -64,23 +64,23 @@ returns-4 c =
       ne-eqb _ _ (b8 .if1 .left),
       not-false (b10 .args .d .on) (b6 .if2 .left),
       ne-eqb _ _ (b3 .if3 .left),
-      b2 .write-falls .ensures,
+      b2 .read-falls .ensures,
       c .before .done .ensures,
       c .ruled2 .ensures,
     )
 
-pub write-gate-spec : {M : Type 1} → statement M
-write-gate-spec =
+pub read-gate-spec : {M : Type 1} → statement M
+read-gate-spec =
     tie.close
     (tie.spec
     heard-requires
     returns
     heard-requires-2
     returns-2
-    write-rises-requires
+    read-rises-requires
     ruled-requires
     returns-3
-    write-falls-requires
+    read-falls-requires
     done-requires
     ruled-requires-2
     returns-4)
