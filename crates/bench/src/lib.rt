@@ -96,8 +96,8 @@ pub fn meet(bench: Bench, file: &mut [u8; ROOM], kind: u32, a: u32, b: u32) -> M
     let chain = s.chain;
     let answer = s.answer;
     let told = Told {
-        answer: event::number(answer),
-        value: event::value(answer),
+        answer: event::numbers::number(answer),
+        value: event::numbers::value(answer),
         sum: shown::line_sum(chain),
     };
     let after = Bench { chain, lent };
