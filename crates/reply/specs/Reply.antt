@@ -4,7 +4,7 @@ use mathlib.Core.List.{List}
 use Rattle.event.specs.declared.Answer.{Answer}
 use Rattle.event.specs.Answer.{numberOf, valueOf}
 use Rattle.record.specs.declared.Chain.{Chain}
-use Rattle.chain.specs.Fresh.{lineSum}
+use Rattle.chain.specs.Shown.{lineSum}
 use Rattle.board.specs.declared.Stepped.{Stepped}
 use Rattle.board.specs.Step.{stepOf, stepFile}
 use Rattle.text.specs.declared.Line.{Line}

@@ -1,5 +1,5 @@
 // What the runner answers to an event line: the event carried out, and the numbers of the output line.
-use chain::fresh;
+use chain::shown;
 use record::Chain;
 use text::Line;
 ghost use mathlib.Core.Path.{_≡_};
@@ -21,11 +21,11 @@ pub fn to_event(c: Chain, file: &mut [u8], kind: u32, a: u32, b: u32) -> Reply
     let s = board::step(c, file, kind, a, b);
     let chain = s.chain;
     let said = s.answer;
-    let sum = fresh::line_sum(chain);
+    let sum = shown::line_sum(chain);
     Reply {
         chain,
-        answer: event::number(said),
-        value: event::value(said),
+        answer: event::numbers::number(said),
+        value: event::numbers::value(said),
         sum,
     }
 }
@@ -40,7 +40,7 @@ pub fn to_line(c: Chain, file: &mut [u8], line: Line) -> Reply
             chain: c,
             answer: text::unreadable(),
             value: 0,
-            sum: fresh::line_sum(c),
+            sum: shown::line_sum(c),
         },
     }
 }

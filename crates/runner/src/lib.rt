@@ -7,7 +7,7 @@ use libc::STDERR_FILENO;
 use pack::Refusal;
 use pack::lay;
 use pack::read::Answer;
-use trailer::Profile;
+use profile::Profile;
 ghost use Prim.Native.Nat.{_≤_};
 ghost use lib.ListN.{length};
 

@@ -64,7 +64,7 @@ fn put(out: &mut [u8], at: usize, lines: u64, answer: u8, value: u8, sum: u8) ->
     requires { ⌜ at ≤ length (now out) ⌝ }
     ensures { λ r. ⌜ r ≤ length (now (out .entry)) ⌝ }
 {
-    at + text::put_answer(&mut out[at..], lines, answer, value, sum)
+    at + text::put::put_answer(&mut out[at..], lines, answer, value, sum)
 }
 
 // The event of a line, and its answer among what waits.
@@ -72,7 +72,7 @@ fn stored(out: &mut [u8; BLOCK], file: &mut [u8], r: Run) -> Run
     requires { ⌜ r .at ≤ blockLength ⌝ }
     ensures { λ q. ⌜ q .at ≤ blockLength ⌝ }
 {
-    let t = reply::to_line(r.chain, file, text::finish(r.scan));
+    let t = reply::to_line(r.chain, file, text::read::finish(r.scan));
     let chain = t.chain;
     let lines = std::num::wrapping_add_u64(r.lines, 1);
     Run {
@@ -93,7 +93,7 @@ fn answered(out: &mut [u8; BLOCK], file: &mut [u8], r: Run, ends: bool) -> Run
         return r;
     }
     let q = stored(out, file, r);
-    if q.at > BLOCK - text::LONGEST {
+    if q.at > BLOCK - text::put::LONGEST {
         return flushed(out, q);
     }
     q
@@ -107,7 +107,7 @@ fn fed(block: &[u8], n: usize, out: &mut [u8; BLOCK], file: &mut [u8], first: Ru
     let mut r = first;
     let mut i = 0;
     while i < n {
-        let stop = text::scan_on(&block[i..n], r.scan);
+        let stop = text::read::scan_on(&block[i..n], r.scan);
         let scan = stop.scan;
         let end = i + stop.at;
         r.scan = scan;
@@ -161,7 +161,7 @@ fn serve_in(chain: Chain, file: &mut [u8], block: &mut [u8; BLOCK], out: &mut [u
     };
     let r = run_all(block, out, file, first);
     // the last line may lack its newline
-    let end = answered(out, file, r, text::has_byte(r.scan));
+    let end = answered(out, file, r, text::read::has_byte(r.scan));
     flushed(out, end);
 }
 

@@ -1,8 +1,8 @@
 -- The smallest drive. Document 01, Runner: "1 cylinder, 1 head, 4,095 bytes, general word 0242h, sector 512, form 1, the rest 0".
 use Prim.Native.Nat.{ℕ}
-use Rattle.trailer.specs.declared.Profile.{Profile}
-use Rattle.trailer.specs.declared.Shape.{Shape}
-use Rattle.trailer.specs.Profile.{blankProfile}
+use Rattle.profile.specs.declared.Profile.{Profile}
+use Rattle.profile.specs.declared.Shape.{Shape}
+use Rattle.profile.specs.Profile.{blankProfile}
 
 -- "1 cylinder, 1 head, 4,095 bytes, .. sector 512"
 abbrev pub smallestShape : Shape

@@ -2,13 +2,13 @@
 use counts::Cylinder;
 use counts::Head;
 use counts::Position;
-use trailer::Profile;
-use trailer::Shape;
+use profile::Profile;
+use profile::Shape;
 ghost use mathlib.Core.Path.{_≡_};
 ghost use Rattle.smallest.specs.Smallest.{smallestOf};
 
 // The length of its pack: the one track, and the trailer.
-pub const PACK: usize = 4095 + Profile::TRAILER;
+pub const PACK: usize = 4095 + trailer::LENGTH;
 
 // The smallest drive for a slot.
 pub fn drive(slot: u8) -> Profile
