@@ -31,7 +31,7 @@ fn answer_code(p: Performed) -> u32
     ensures { λ r. ⌜ r ≡ answerCode (p .answer) ⌝ }
 {
     let answer = p.answer;
-    event::number(answer) as u32 + event::value(answer) as u32 * 256
+    event::numbers::number(answer) as u32 + event::numbers::value(answer) as u32 * 256
 }
 
 fn chain_of(t: Coded) -> Chain

@@ -34,11 +34,11 @@ use denote.Triple.Clauses.{ensured, lasts}
 use Rattle.record.specs.declared.Chain.{Chain}
 use Rattle.record.proofs.Chain as T
 use Rattle.record.proofs.Chain.Laws as T′
-use Rattle.chain.specs.Fresh.{lineSum}
-use Rattle.chain.proofs.fresh.line_sum as by-value
-use Rattle.chain.proofs.fresh.line_sum.Symbol as by-value-def
-use Rattle.chain.proofs.fresh.line_sum.Symbol.{name as #plain}
-use Rattle.chain.proofs.fresh.line_sum.Met as by-value-thm
+use Rattle.chain.specs.Shown.{lineSum}
+use Rattle.chain.proofs.shown.line_sum as by-value
+use Rattle.chain.proofs.shown.line_sum.Symbol as by-value-def
+use Rattle.chain.proofs.shown.line_sum.Symbol.{name as #plain}
+use Rattle.chain.proofs.shown.line_sum.Met as by-value-thm
 use Rattle.esdi.proofs.esdi_lines.Key.{name as #lent}
 use Rattle.esdi.proofs.esdi_lines as lent
 use Rattle.esdi.proofs.esdi_lines.Statement as stated
