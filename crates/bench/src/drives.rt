@@ -46,15 +46,6 @@ fn no_times() -> Times {
     }
 }
 
-fn smallest(slot: u8) -> Profile {
-    let shape = shape(1, 1, 4095, 512);
-    let mut p = Profile::blank();
-    p.slot = slot;
-    p.general = 0x0242;
-    p.shape = shape;
-    p
-}
-
 // Fixed, hard sectored by the drive, the offset and the motor option, and a time for everything but its heads.
 fn every_option() -> Profile {
     let times = Times {
@@ -166,6 +157,6 @@ fn mixed(slot: u8) -> Profile {
 pub fn profile(which: u8, slot: u8) -> Profile {
     match which {
         MIXED => mixed(slot),
-        _ => smallest(slot),
+        _ => smallest::drive(slot),
     }
 }

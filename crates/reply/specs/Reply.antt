@@ -1,7 +1,6 @@
 -- The reply to an event line. Document 01, Runner: "Each output line: input line count, answer, value, and the selected drive's lines as a sum".
 use Prim.Native.Nat.{ℕ}
 use mathlib.Core.List.{List}
-use Rattle.event.specs.declared.Answer.{Answer}
 use Rattle.event.specs.Answer.{numberOf, valueOf}
 use Rattle.record.specs.declared.Chain.{Chain}
 use Rattle.chain.specs.Shown.{lineSum}

@@ -68,11 +68,11 @@ fn put(out: &mut [u8], at: usize, lines: u64, answer: u8, value: u8, sum: u8) ->
 }
 
 // The event of a line, and its answer among what waits.
-fn stored(out: &mut [u8; BLOCK], file: &mut [u8], r: Run) -> Run
+fn stored(out: &mut [u8; BLOCK], file: &mut [u8], r: Run, scan: Scan) -> Run
     requires { ⌜ r .at ≤ blockLength ⌝ }
     ensures { λ q. ⌜ q .at ≤ blockLength ⌝ }
 {
-    let t = reply::to_line(r.chain, file, text::read::finish(r.scan));
+    let t = reply::to_line(r.chain, file, text::finish(scan));
     let chain = t.chain;
     let lines = std::num::wrapping_add_u64(r.lines, 1);
     Run {
@@ -84,16 +84,18 @@ fn stored(out: &mut [u8; BLOCK], file: &mut [u8], r: Run) -> Run
     }
 }
 
-// A line at its end; one that goes on is left. What waits is written where the next answer might find no room.
-fn answered(out: &mut [u8; BLOCK], file: &mut [u8], r: Run, ends: bool) -> Run
+// A line as far as it was read, answered where it ends. What waits is written where the next answer might find no room.
+fn met(out: &mut [u8; BLOCK], file: &mut [u8], r: Run, scan: Scan, ends: bool) -> Run
     requires { ⌜ r .at ≤ blockLength ⌝ }
     ensures { λ q. ⌜ q .at ≤ blockLength ⌝ }
 {
     if !ends {
-        return r;
+        let mut on = r;
+        on.scan = scan;
+        return on;
     }
-    let q = stored(out, file, r);
-    if q.at > BLOCK - text::put::LONGEST {
+    let q = stored(out, file, r, scan);
+    if q.at > BLOCK - text::LONGEST {
         return flushed(out, q);
     }
     q
@@ -107,11 +109,9 @@ fn fed(block: &[u8], n: usize, out: &mut [u8; BLOCK], file: &mut [u8], first: Ru
     let mut r = first;
     let mut i = 0;
     while i < n {
-        let stop = text::read::scan_on(&block[i..n], r.scan);
-        let scan = stop.scan;
+        let stop = text::scan_on(&block[i..n], r.scan);
         let end = i + stop.at;
-        r.scan = scan;
-        r = answered(out, file, r, end < n);
+        r = met(out, file, r, stop.scan, end < n);
         i = end + 1;
     }
     r
@@ -151,17 +151,22 @@ fn run_all(block: &mut [u8; BLOCK], out: &mut [u8; BLOCK], file: &mut [u8], firs
     r
 }
 
-fn serve_in(chain: Chain, file: &mut [u8], block: &mut [u8; BLOCK], out: &mut [u8; BLOCK]) {
-    let first = Run {
+fn start(chain: Chain) -> Run
+    ensures { λ q. ⌜ q .at ≤ blockLength ⌝ }
+{
+    Run {
         chain,
         scan: Scan::fresh(),
         lines: 0,
         at: 0,
         open: true,
-    };
-    let r = run_all(block, out, file, first);
+    }
+}
+
+fn serve_in(chain: Chain, file: &mut [u8], block: &mut [u8; BLOCK], out: &mut [u8; BLOCK]) {
+    let r = run_all(block, out, file, start(chain));
     // the last line may lack its newline
-    let end = answered(out, file, r, text::read::has_byte(r.scan));
+    let end = met(out, file, r, r.scan, text::has_byte(r.scan));
     flushed(out, end);
 }
 

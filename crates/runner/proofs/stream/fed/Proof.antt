@@ -32,8 +32,8 @@ scan-on-requires c κs = search needs
 add-end : tie.Need-add-end Inv-loop μ-loop
 add-end c = search needs
 
-answered-requires : tie.Need-answered-requires Inv-loop μ-loop
-answered-requires c κs = search needs
+met-requires : tie.Need-met-requires Inv-loop μ-loop
+met-requires c κs = search needs
 
 add-i : tie.Need-add-i Inv-loop μ-loop
 add-i c = search needs
@@ -62,7 +62,7 @@ fed-spec =
     part-scan-on-end
     scan-on-requires
     add-end
-    answered-requires
+    met-requires
     add-i
     loop-less
     loop-again

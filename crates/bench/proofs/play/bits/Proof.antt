@@ -1,13 +1,13 @@
--- `bench::play::take` is safe and ends: the bits left fall at each turn.
+-- `bench::play::bits` is safe and ends: the bits left fall at each turn.
 use borrow.Author.Needs.{needs}
-use Rattle.bench.proofs.play.take.Statement.{statement}
-use Rattle.bench.proofs.play.take.Tie as tie
+use Rattle.bench.proofs.play.bits.Statement.{statement}
+use Rattle.bench.proofs.play.bits.Tie as tie
 
 abbrev Inv-loop : tie.InvT-loop
-Inv-loop file₀ word q₀ «open» n₀ left₀ file q n left = Unit {0}
+Inv-loop file₀ way word count q₀ before₀ «open» n₀ left₀ file q before n left = Unit {0}
 
 abbrev μ-loop : tie.MeasureT-loop
-μ-loop file₀ word q₀ «open» n₀ left₀ file q n left = left
+μ-loop file₀ way word count q₀ before₀ «open» n₀ left₀ file q before n left = left
 
 found-requires : tie.Need-found-requires Inv-loop μ-loop
 found-requires c κs = search needs
@@ -21,8 +21,8 @@ open-sum-requires c κs = search needs
 loop-holds : tie.Need-loop-holds Inv-loop μ-loop
 loop-holds c = tt
 
-put-out-requires : tie.Need-put-out-requires Inv-loop μ-loop
-put-out-requires c κs = search needs
+risen-requires : tie.Need-risen-requires Inv-loop μ-loop
+risen-requires c κs = search needs
 
 fallen-requires : tie.Need-fallen-requires Inv-loop μ-loop
 fallen-requires c κs = search needs
@@ -42,8 +42,8 @@ loop-again c = tt
 returns : tie.Need-returns Inv-loop μ-loop
 returns c = search needs
 
-pub take-spec : {M : Type 1} → statement M
-take-spec =
+pub bits-spec : {M : Type 1} → statement M
+bits-spec =
     tie.close
     (tie.spec
     Inv-loop
@@ -52,7 +52,7 @@ take-spec =
     line-sum-requires
     open-sum-requires
     loop-holds
-    put-out-requires
+    risen-requires
     fallen-requires
     mul-n
     sub-left

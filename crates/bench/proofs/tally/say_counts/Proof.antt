@@ -1,14 +1,15 @@
--- `bench::tally::say_answers` is safe and ends: it meets each answer once.
+-- `bench::tally::say_counts` is safe and ends: it meets each count once.
 use Prim.Native.Nat.{_≤_, _-_}
+use lib.ListN.{length}
 use borrow.Author.Needs.{needs}
-use Rattle.bench.proofs.tally.say_answers.Statement.{statement}
-use Rattle.bench.proofs.tally.say_answers.Tie as tie
+use Rattle.bench.proofs.tally.say_counts.Statement.{statement}
+use Rattle.bench.proofs.tally.say_counts.Tie as tie
 
 abbrev Inv-loop : tie.InvT-loop
-Inv-loop answers i₀ t5 i = i ≤ 26
+Inv-loop name counts i₀ i-end i = i ≤ length counts
 
 abbrev μ-loop : tie.MeasureT-loop
-μ-loop answers i₀ t5 i = 26 - i
+μ-loop name counts i₀ i-end i = length counts - i
 
 loop-holds : tie.Need-loop-holds Inv-loop μ-loop
 loop-holds c = search needs
@@ -16,11 +17,8 @@ loop-holds c = search needs
 mul-n : tie.Need-mul-n Inv-loop μ-loop
 mul-n c = search needs
 
-array-read-n : tie.Need-array-read-n Inv-loop μ-loop
-array-read-n c = search needs
-
-slice-aggregate-say-each : tie.Need-slice-aggregate-say-each Inv-loop μ-loop
-slice-aggregate-say-each c = search needs
+shared-slice-read-n : tie.Need-shared-slice-read-n Inv-loop μ-loop
+shared-slice-read-n c = search needs
 
 say-each-requires : tie.Need-say-each-requires Inv-loop μ-loop
 say-each-requires c κs = search needs
@@ -37,16 +35,15 @@ loop-again c = search needs
 returns : tie.Need-returns Inv-loop μ-loop
 returns c = search needs
 
-pub say-answers-spec : {M : Type 1} → statement M
-say-answers-spec =
+pub say-counts-spec : {M : Type 1} → statement M
+say-counts-spec =
     tie.close
     (tie.spec
     Inv-loop
     μ-loop
     loop-holds
     mul-n
-    array-read-n
-    slice-aggregate-say-each
+    shared-slice-read-n
     say-each-requires
     add-i
     loop-less
