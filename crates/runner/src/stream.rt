@@ -72,7 +72,7 @@ fn stored(out: &mut [u8; BLOCK], file: &mut [u8], r: Run, scan: Scan) -> Run
     requires { ⌜ r .at ≤ blockLength ⌝ }
     ensures { λ q. ⌜ q .at ≤ blockLength ⌝ }
 {
-    let t = reply::to_line(r.chain, file, text::finish(scan));
+    let t = reply::to_line(r.chain, file, text::read::finish(scan));
     let chain = t.chain;
     let lines = std::num::wrapping_add_u64(r.lines, 1);
     Run {
@@ -95,7 +95,7 @@ fn met(out: &mut [u8; BLOCK], file: &mut [u8], r: Run, scan: Scan, ends: bool) -
         return on;
     }
     let q = stored(out, file, r, scan);
-    if q.at > BLOCK - text::LONGEST {
+    if q.at > BLOCK - text::put::LONGEST {
         return flushed(out, q);
     }
     q
@@ -109,7 +109,7 @@ fn fed(block: &[u8], n: usize, out: &mut [u8; BLOCK], file: &mut [u8], first: Ru
     let mut r = first;
     let mut i = 0;
     while i < n {
-        let stop = text::scan_on(&block[i..n], r.scan);
+        let stop = text::read::scan_on(&block[i..n], r.scan);
         let end = i + stop.at;
         r = met(out, file, r, stop.scan, end < n);
         i = end + 1;
@@ -166,7 +166,7 @@ fn start(chain: Chain) -> Run
 fn serve_in(chain: Chain, file: &mut [u8], block: &mut [u8; BLOCK], out: &mut [u8; BLOCK]) {
     let r = run_all(block, out, file, start(chain));
     // the last line may lack its newline
-    let end = met(out, file, r, r.scan, text::has_byte(r.scan));
+    let end = met(out, file, r, r.scan, text::read::has_byte(r.scan));
     flushed(out, end);
 }
 

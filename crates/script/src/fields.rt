@@ -12,8 +12,8 @@ use drive::State;
 use drive::Timers;
 use handshake::Transfer;
 use pack::Pack;
+use profile::Profile;
 use record::Chain;
-use trailer::Profile;
 use unit::Lines;
 
 // What a name says that no field has.
