@@ -3,8 +3,8 @@ use mathlib.Core.Path.{_≡_, refl}
 use mathlib.Core.Bool.{true, not}
 use mathlib.Core.Logic.{inl}
 use Prim.Native.Nat.{ℕ, _+_, _<_}
-use native.Mathlib.Omega.{arith}
 use Rattle.counts.specs.declared.Position.{Position}
+use Rattle.counts.proofs.Choice.{never}
 use Rattle.trailer.specs.Profile.{mediumOf}
 use Rattle.drive.specs.Status.{attentionB}
 use Rattle.drive.proofs.Facts.{Usable, usable}
@@ -33,9 +33,6 @@ pub record Written (c : Chain) (place : ℕ) : Type 0 where
   pub there : position .0 < lookOf c .profile .shape .track .0
   pub is : place ≡ cellPlace (lookOf c) position
   pub inside : place < lookOf c .place .0 + mediumOf (lookOf c .profile .shape)
-
-never : _≡_ {A = ℕ} 0 1 → ⊥
-never z = omega arith
 
 module _ (c : Chain) (h : soundB c ≡ true) where
   abbrev Only : Event → Decision → Type 0

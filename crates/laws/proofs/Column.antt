@@ -11,11 +11,10 @@ use lib.ListN.{length, getD, set}
 use lib.Seq.{set-getD}
 use Rattle.counts.specs.declared.Position.{Position}
 use Rattle.counts.specs.Choice.{if_then_else_}
-use Rattle.counts.proofs.Choice.{by-test}
+use Rattle.counts.proofs.Choice.{by-test, either-way, never}
 use Rattle.drive.specs.declared.State.{State}
 use Rattle.drive.specs.declared.Outcome.{Outcome}
 use Rattle.drive.specs.declared.Outcome.the-variants.{Done, Inhibited, Fault}
-use Rattle.drive.specs.declared.Ruled.{Ruled}
 use Rattle.drive.specs.State.{blankState}
 use Rattle.drive.specs.Gates.{readFalls}
 use Rattle.drive.specs.Heads.{leftOf}
@@ -45,9 +44,6 @@ use Rattle.laws.specs.Column.{Leaves}
 use Rattle.chain.proofs.Walk.{Cases, walk}
 use Rattle.laws.proofs.Outcomes.{Unlatched, write-unlatched, read-unlatched, met-acts, left-acts, pass-acts, rises-acts, falls-acts, left-done}
 
-never : _≡_ {A = ℕ} 0 1 → ⊥
-never z = omega arith
-
 -- a state put where it stands
 put-back : (states : List State) (slot : ℕ) → putOf states slot (slotState states slot) ≡ states
 unfolding putOf slotState
@@ -57,16 +53,12 @@ put-back states slot = by (slotB slot)
     by true = set-getD states (slot - 1) blankState
     by false = refl
 
-either : (s : State) (t : Bool) (x y : Ruled) → Unlatched s x → Unlatched s y → Unlatched s (if t then x else y)
-either s true x y p q = p
-either s false x y p q = q
-
 -- where the rule that a signal meets is inhibited, the drive is as it was
 pub rule-unlatched : (d : Seen) (l : Lines) (e : Event) → Unlatched (d .state) (ruleOf d l e)
 rule-unlatched d l (Heads h) = λ i. absurd (met-acts _ _ _ i)
-rule-unlatched d l (WriteGate v) = either (d .state) (eqb v 1) _ _ (write-unlatched _ _ _) (λ i. absurd (never (cc)))
-rule-unlatched d l (ReadGate v) = either (d .state) (eqb v 1) _ _ (read-unlatched _ _ _) (λ i. absurd (never (cc)))
-rule-unlatched d l (Request v) = either (d .state) (eqb v 1) _ _ (λ i. absurd (rises-acts _ _ _ i)) (λ i. absurd (falls-acts _ _ i))
+rule-unlatched d l (WriteGate v) = either-way (Unlatched (d .state)) (eqb v 1) _ _ (write-unlatched _ _ _) (λ i. absurd (never (cc)))
+rule-unlatched d l (ReadGate v) = either-way (Unlatched (d .state)) (eqb v 1) _ _ (read-unlatched _ _ _) (λ i. absurd (never (cc)))
+rule-unlatched d l (Request v) = either-way (Unlatched (d .state)) (eqb v 1) _ _ (λ i. absurd (rises-acts _ _ _ i)) (λ i. absurd (falls-acts _ _ i))
 rule-unlatched d l (Data v) = λ i. refl
 rule-unlatched d l (Select slot) = λ i. refl
 rule-unlatched d l (Pass us) = λ i. refl

@@ -52,9 +52,6 @@ use Rattle.chain.proofs.Walk.{lineB, Cases, walk, enteredOf}
 use Rattle.laws.proofs.Outcomes.{left-acts, pass-acts}
 use Rattle.laws.proofs.Drives.{slot-sound, is-slot, listed, slot-room, state-in, fitted-in}
 
-never : _≡_ {A = ℕ} 0 1 → ⊥
-never z = omega arith
-
 and-false : (a : Bool) → (a && false) ≡ false
 and-false true = refl
 and-false false = refl

@@ -12,7 +12,9 @@ use lib.ListN.{getD}
 use Rattle.counts.specs.declared.Position.{Position}
 use Rattle.counts.specs.Choice.{if_then_else_}
 use Rattle.counts.specs.Slots.{allWith}
-use Rattle.counts.proofs.Tests.{both, each, within-both}
+use Rattle.counts.proofs.Choice.{guarded}
+use Rattle.counts.proofs.Slots.{all-at}
+use Rattle.counts.proofs.Tests.{each, within-both}
 use Rattle.trailer.specs.Profile.{mediumOf}
 use Rattle.trailer.specs.Valid.{validB}
 use Rattle.pack.specs.declared.Pack.{Pack}
@@ -31,10 +33,6 @@ use Rattle.record.specs.Record.{slotB, slotPack, slotState, lookOf}
 use Rattle.kinds.specs.Cell.{cellPlace}
 use Rattle.soundness.specs.Sound.{packTests, packB, placedOf, placesB, driveB, soundB}
 
-pub guarded : (a b : Bool) → (if not a then false else b) ≡ true → (a ≡ true) × (b ≡ true)
-guarded true b h = (refl, h)
-guarded false b h = absurd (false≢true h)
-
 unless : (a b : Bool) → (if a then false else b) ≡ true → (a ≡ false) × (b ≡ true)
 unless true b h = absurd (false≢true h)
 unless false b h = (refl, h)
@@ -52,14 +50,6 @@ sound c h =
     let b = unless (ltb longest (c .length .0)) _ (a .1) in
     let d = guarded (placesB (c .packs) 1 0 (c .length .0)) _ (b .1) in
     record { lines = a .0; long = ltb-false _ _ (b .0); places = d .0; drives = d .1 }
-
--- what holds side by side holds at each place; past the end of the first list z stands
-pub all-at : {A B : Type 0} (p : A → B → Bool) (z : A) (v : B) → ((y : B) → p z y ≡ true) → (xs : List A) (ys : List B) (i : ℕ)
-    → allWith p xs ys ≡ true → p (getD xs i z) (getD ys i v) ≡ true
-all-at p z v h [] ys i e = h (getD ys i v)
-all-at p z v h (x ∷ xs) [] i e = absurd (false≢true e)
-all-at p z v h (x ∷ xs) (y ∷ ys) zero e = both (p x y) (allWith p xs ys) e .0
-all-at p z v h (x ∷ xs) (y ∷ ys) (suc i) e = all-at p z v h xs ys i (both (p x y) (allWith p xs ys) e .1)
 
 -- a fitted pack, in its own slot and within the file
 pub record InFile (slot len : ℕ) (p : Pack) : Type 0 where
