@@ -24,7 +24,7 @@ use Rattle.chain.proofs.Walk.{Cases, walk}
 
 -- the drive under which the byte at a place of the file is written
 pub record Written (c : Chain) (place : ℕ) : Type 0 where
-  pub selected : lookOf c .on ≡ true
+  pub selected : lookOf c .selected ≡ true
   pub usable : Usable (lookOf c .profile) (lookOf c .state)  -- ready, complete, position known, head present
   pub quiet : not (attentionB (lookOf c .state .body)) ≡ true
   pub offset : lookOf c .state .body .arm .offset ≡ 0
@@ -41,7 +41,7 @@ module _ (c : Chain) (h : soundB c ≡ true) where
   says : (a : Answer) (place byte : ℕ) → Say a ≡ Write place byte → Written c place
   says a place byte w = absurd (never (cc))
 
-  written : (position : Position) → lookOf c .on ≡ true → position .0 < lookOf c .profile .shape .track .0 → lookOf c .state .body .writing ≡ 1
+  written : (position : Position) → lookOf c .selected ≡ true → position .0 < lookOf c .profile .shape .track .0 → lookOf c .state .body .writing ≡ 1
       → Written c (cellPlace (lookOf c) position)
   written position on t w =
       let d = chosen c h on .drive in

@@ -56,9 +56,9 @@ module _ (c : Chain) (file : List ℕ) where
 
   -- what is seen of it
   abbrev sight : State → Seen
-  sight s = record { on = true; place = lookOf c .place; profile = lookOf c .profile; state = s }
+  sight s = record { selected = true; place = lookOf c .place; profile = lookOf c .profile; state = s }
 
-  module _ (h : Here c (c .lines .select)) (on : lookOf c .on ≡ true) (writes : c .lines .writegate ≡ 0) (reads : c .lines .readgate ≡ 0) where
+  module _ (h : Here c (c .lines .select)) (on : lookOf c .selected ≡ true) (writes : c .lines .writegate ≡ 0) (reads : c .lines .readgate ≡ 0) where
     put-there : (us : ℕ) (s : State) → slotState (set (slots us) (c .lines .select - 1) s) (c .lines .select) ≡ s
     put-there us s =
         let long : length (slots us) ≡ length (c .states) = map-long (passSlot (record { 0 = us })) (c .packs) (c .states) in
@@ -68,7 +68,7 @@ module _ (c : Chain) (file : List ℕ) where
     pub seen : (u : Wired Body) → lookOf (around u .chain) ≡ sight (stateOf (u .body) (u .transfer))
     unfolding lookOf
     seen u = λ i. record {
-      on = on i;
+      selected = on i;
       place = lookOf c .place;
       profile = lookOf c .profile;
       state = put-there (u .elapsed) (stateOf (u .body) (u .transfer)) i;

@@ -36,7 +36,7 @@ pub there : (c : Chain) (k : ℕ) → soundB c ≡ true → fittedB (slotPack (c
 there c k h on = record { slot = is-slot c h k on; fitted = listed c h k on; packs = pack-room c h k on; states = slot-room c h k on }
 
 -- the selected one
-pub here : (c : Chain) → soundB c ≡ true → lookOf c .on ≡ true → Here c (c .lines .select)
+pub here : (c : Chain) → soundB c ≡ true → lookOf c .selected ≡ true → Here c (c .lines .select)
 unfolding lookOf
 here c h on = there c (c .lines .select) h on
 

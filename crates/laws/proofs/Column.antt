@@ -92,7 +92,7 @@ module _ (c : Chain) (file : List ℕ) (h : soundB c ≡ true) (n : length file 
   acting e Fault chain i = refl
   acting e Inhibited chain i = absurd (i refl)
 
-  left-alone : (slot : ℕ) (o : Outcome) (s : State) → (o ≡ Done → s ≡ readFalls (d .state)) → (o ≡ Inhibited → ⊥) → d .on ≡ true
+  left-alone : (slot : ℕ) (o : Outcome) (s : State) → (o ≡ Done → s ≡ readFalls (d .state)) → (o ≡ Inhibited → ⊥) → d .selected ≡ true
       → Leaves (Select slot) c file (eitherAnswer o answer.Unselected) (with (putOf (c .states) (l .select) s) (linesAfter (Select slot) l)) file
   left-alone slot Fault s e i on = refl
   left-alone slot Inhibited s e i on = absurd (i refl)
@@ -108,7 +108,7 @@ module _ (c : Chain) (file : List ℕ) (h : soundB c ≡ true) (n : length file 
   timed e true o chain i = acting e o chain i
   timed e false o chain i = refl
 
-  inside : (position : Position) → d .on ≡ true → position .0 < d .profile .shape .track .0
+  inside : (position : Position) → d .selected ≡ true → position .0 < d .profile .shape .track .0
       → (d .state .body .writing ≡ 1) ⊎ (d .state .body .reading ≡ 1) → cellPlace d position < length file
   inside position on t u = omega (arith, cell-in-file c position h on t u)
 
@@ -122,7 +122,7 @@ module _ (c : Chain) (file : List ℕ) (h : soundB c ≡ true) (n : length file 
     enters = λ slot off f m. acting (Select slot) _ _ (met-acts _ _ _);
     leaves = λ slot on f m. left-alone slot (leftOf (d .state) .outcome) (leftOf (d .state) .state) (left-done (d .state)) (left-acts (d .state)) on;
     swaps = λ slot on f m. swapped (Select slot) _ _ _ (left-acts (d .state)) (met-acts _ _ _);
-    passes = λ us. timed (Pass us) (d .on) _ _ (pass-acts us (d .state));
+    passes = λ us. timed (Pass us) (d .selected) _ _ (pass-acts us (d .state));
     past = λ position byte on. (refl, refl);
     writes = λ position byte on t w.
         (record { position = position; byte = byte; cell = refl; inside = inside position on t (inl w); holds = refl }, refl);

@@ -164,11 +164,11 @@ module _ (c : Chain) (h : soundB c ≡ true) where
   apart : (k x : ℕ) → Fitted k → fittedB (slotPack (c .packs) x) ≡ false → k ≡ x → ⊥
   apart k x f n e = false≢true (sym n ∙ ap (λ (i : ℕ). fittedB (slotPack (c .packs) i)) (sym e) ∙ f)
 
-  off : lookOf c .on ≡ false → fittedB (slotPack (c .packs) (l .select)) ≡ false
+  off : lookOf c .selected ≡ false → fittedB (slotPack (c .packs) (l .select)) ≡ false
   unfolding lookOf
   off n = n
 
-  on : lookOf c .on ≡ true → Fitted (l .select)
+  on : lookOf c .selected ≡ true → Fitted (l .select)
   unfolding lookOf
   on y = y
 
@@ -206,7 +206,7 @@ module _ (c : Chain) (h : soundB c ≡ true) where
   P e x = InRange e → soundB (applied c x) ≡ true
 
   -- no drive is selected before or after: only lines change
-  unselected : (e : Event) → InRange e → lookOf c .on ≡ false → fittedB (slotPack (c .packs) (linesAfter e l .select)) ≡ false
+  unselected : (e : Event) → InRange e → lookOf c .selected ≡ false → fittedB (slotPack (c .packs) (linesAfter e l .select)) ≡ false
       → soundB (with (c .states) (linesAfter e l)) ≡ true
   unselected e r n a =
       slots-sound c h (linesAfter e l) (c .states) (lines-kept e l r (sound c h .lines)) (enough c h)
@@ -217,7 +217,7 @@ module _ (c : Chain) (h : soundB c ≡ true) where
       slots-sound c h (with-command a l) (c .states) (lines-kept (Data a) l r (sound c h .lines)) (enough c h)
       (λ k f. data-unlooked _ l a (eqb (l .select) k) (of k) (slot-sound c h k f))
 
-  met-kept : (e : Event) → InRange e → lookOf c .on ≡ true → movesB e l ≡ true → linesAfter e l .select ≡ l .select
+  met-kept : (e : Event) → InRange e → lookOf c .selected ≡ true → movesB e l ≡ true → linesAfter e l .select ≡ l .select
       → soundB (with (putOf (c .states) (linesAfter e l .select) (ruleOf (lookOf c) l e .state)) (linesAfter e l)) ≡ true
   met-kept e r y m q =
       let s = ruleOf (lookOf c) l e .state in

@@ -89,7 +89,7 @@ effect-acts p b Status h = done h
 effect-acts p b (Configuration modifier) h = done h
 effect-acts p b (Does act) h = done h
 
-edge-acts : (p : Profile) (b : Body) (e : Edge) → Acts (request.metOf p b e)
+edge-acts : (p : Profile) (b : Body) (e : Edge) → Acts (request.edgeOf p b e)
 unfolding carryOf
 edge-acts p b (Keep t) h = done h
 edge-acts p b Drop h = fault h

@@ -17,8 +17,8 @@ use Rattle.decision.specs.Decision.{heardOf, ruledOf, doneOf}
 -- "Setting a line to the level it has does nothing."; else the lines, l before and m after, are taken, and the selected drive meets a rule
 unfoldable pub signalOf : Seen → Lines → Lines → Bool → Ruled → Decision
 signalOf d l m same rule =
-    if same then heardOf l (d .on)
-    else if not (d .on) then heardOf m false
+    if same then heardOf l (d .selected)
+    else if not (d .selected) then heardOf m false
     else ruledOf m rule
 
 -- kind 1
@@ -41,7 +41,7 @@ readGateOf d l level = signalOf d l (with-readgate level l) (eqb (l .readgate) l
 
 -- kind 4
 abbrev pub dataOf : Seen → Lines → ℕ → Decision
-dataOf d l level = heardOf (with-command level l) (d .on)
+dataOf d l level = heardOf (with-command level l) (d .selected)
 
 -- kind 5
 abbrev pub requestRule : Seen → Lines → ℕ → Ruled

@@ -18,9 +18,9 @@ fn signal(d: Seen, l: Lines, m: Lines, same: bool, r: Ruled) -> Decision
     ensures { λ x. ⌜ x ≡ signalOf d l m same r ⌝ }
 {
     if same {
-        return heard(l, d.on);
+        return heard(l, d.selected);
     }
-    if !d.on {
+    if !d.selected {
         return heard(m, false);
     }
     ruled(m, r)
@@ -79,7 +79,7 @@ pub fn data(d: Seen, l: Lines, level: u8) -> Decision
 {
     let mut m = l;
     m.command = level;
-    heard(m, d.on)
+    heard(m, d.selected)
 }
 
 fn request_rule(d: Seen, l: Lines, level: u8) -> Ruled

@@ -140,7 +140,7 @@ drives : (l : Lines) (p : Pack) (s : State) → driveB l p s ≡ true → p .fit
 unfolding driveB
 drives l p s h f own = selected (p .profile) l s (rw (eq-eqb _ _ f, eq-eqb _ _ own) at h)
 
-pub chosen : (c : Chain) → soundB c ≡ true → lookOf c .on ≡ true → Chosen c (lookOf c)
+pub chosen : (c : Chain) → soundB c ≡ true → lookOf c .selected ≡ true → Chosen c (lookOf c)
 unfolding lookOf
 chosen c h on =
     let s = sound c h in
@@ -157,7 +157,7 @@ chosen c h on =
     record { pack = rw ep i; drive = rw (ep, es) d }
 
 -- the byte that a cell meets stands in the selected pack's medium
-pub cell-inside : (c : Chain) (position : Position) → soundB c ≡ true → lookOf c .on ≡ true → position .0 < lookOf c .profile .shape .track .0
+pub cell-inside : (c : Chain) (position : Position) → soundB c ≡ true → lookOf c .selected ≡ true → position .0 < lookOf c .profile .shape .track .0
     → (lookOf c .state .body .writing ≡ 1) ⊎ (lookOf c .state .body .reading ≡ 1)
     → cellPlace (lookOf c) position < lookOf c .place .0 + mediumOf (lookOf c .profile .shape)
 unfolding cellPlace placeOf
@@ -167,7 +167,7 @@ cell-inside c position h on t u =
     omega (arith, digits-lt (digits-lt (on-cylinder _ _ (d .limits)) present) t)
 
 -- and so in the file
-pub cell-in-file : (c : Chain) (position : Position) → soundB c ≡ true → lookOf c .on ≡ true → position .0 < lookOf c .profile .shape .track .0
+pub cell-in-file : (c : Chain) (position : Position) → soundB c ≡ true → lookOf c .selected ≡ true → position .0 < lookOf c .profile .shape .track .0
     → (lookOf c .state .body .writing ≡ 1) ⊎ (lookOf c .state .body .reading ≡ 1) → cellPlace (lookOf c) position < c .length .0
 unfolding lookOf
 cell-in-file c position h on t u = omega (arith, chosen c h on .pack .within, cell-inside c position h on t u)

@@ -19,7 +19,7 @@ returns-2 : tie.Need-returns-2
 unfolding signalOf
 returns-2 c =
     let b3 = c .before .before .before in
-    simp (b3 .if1 .left, not-true (b3 .before .args .d .on) (c .before .if2 .taken), c .heard2 .ensures)
+    simp (b3 .if1 .left, not-true (b3 .before .args .d .selected) (c .before .if2 .taken), c .heard2 .ensures)
 
 ruled-requires : tie.Need-ruled-requires
 ruled-requires c κs = search needs
@@ -28,7 +28,7 @@ returns-3 : tie.Need-returns-3
 unfolding signalOf
 returns-3 c =
     let b3 = c .before .before .before in
-    simp (b3 .if1 .left, not-false (b3 .before .args .d .on) (c .before .if2 .left), c .ruled .ensures)
+    simp (b3 .if1 .left, not-false (b3 .before .args .d .selected) (c .before .if2 .left), c .ruled .ensures)
 
 pub signal-spec : {M : Type 1} → statement M
 signal-spec =
