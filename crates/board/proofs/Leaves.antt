@@ -73,7 +73,7 @@ module _ (c : Chain) (file : List ℕ) where
     enters = λ slot off f m. ruled (enteredOf c slot .outcome);
     leaves = λ slot on n m. either (leftOf (d .state) .outcome) Unselected alone;
     swaps = λ slot on f m. either (leftOf (d .state) .outcome) (outcomeAnswer (enteredOf c slot .outcome)) (low (enteredOf c slot .outcome));
-    passes = λ us. timed (d .on) (time.passOf us (d .state) .outcome);
+    passes = λ us. timed (d .selected) (time.passOf us (d .state) .outcome);
     past = λ position byte on h. (refl, refl);
     writes = λ position byte on t w h. absurd (omega arith);
     reads = λ position byte on t r w h. absurd (omega arith);

@@ -19,7 +19,7 @@ use Rattle.record.specs.Record.{slotPack, slotState, lookOf}
 -- kind 0
 unfoldable pub selectOf : Chain → Seen → ℕ → Decision
 selectOf c d slot =
-    if eqb (c .lines .select) slot then heardOf (c .lines) (d .on)
+    if eqb (c .lines .select) slot then heardOf (c .lines) (d .selected)
     else movedOf d (c .lines) (with-select slot (c .lines)) (slotPack (c .packs) slot) (slotState (c .states) slot)
 
 -- kind 8

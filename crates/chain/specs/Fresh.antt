@@ -1,7 +1,7 @@
 -- The chain of a file that reads, fresh.
 use Prim.Native.Nat.{ℕ}
 use mathlib.Core.List.{List}
-use lib.Dec.{ltb, eqb}
+use lib.Dec.{ltb}
 use lib.ListN.{length, replicate}
 use Rattle.counts.specs.Choice.{if_then_else_}
 use Rattle.counts.specs.Slots.{mapWith}
@@ -14,6 +14,7 @@ use Rattle.pack.specs.Read.{readAll}
 use Rattle.drive.specs.declared.State.{State}
 use Rattle.drive.specs.State.{freshOf, blankState}
 use Rattle.unit.specs.declared.Lines.{Lines}
+use Rattle.decision.specs.Decision.{fittedB}
 use Rattle.record.specs.declared.Chain.{Chain}
 use Rattle.chain.specs.declared.fresh.Fitted.{Fitted}
 
@@ -23,7 +24,7 @@ lowLines = record { select = 0; heads = record { 0 = 0 }; writegate = 0; readgat
 
 -- "Fresh drive", in each slot that has a pack
 unfoldable pub freshSlot : Pack → State → State
-freshSlot p s = if eqb (p .fitted) 1 then freshOf (p .profile) else s
+freshSlot p s = if fittedB p then freshOf (p .profile) else s
 
 abbrev pub blankStates : List State
 blankStates = replicate 7 blankState

@@ -8,4 +8,4 @@ use Rattle.record.specs.Record.{lookOf}
 
 -- "and the selected drive's lines as a sum (..; 0 if none)"
 unfoldable pub lineSum : Chain → ℕ
-lineSum c = if not (lookOf c .on) then 0 else sumOf (lookOf c .state)
+lineSum c = if not (lookOf c .selected) then 0 else sumOf (lookOf c .state)

@@ -18,7 +18,7 @@ fn select(c: Chain, d: Seen, slot: u8) -> Decision
     let mut m = c.lines;
     m.select = slot;
     if l.select == slot {
-        return decision::heard(l, d.on);
+        return decision::heard(l, d.selected);
     }
     let packs = c.packs;
     let states = c.states;

@@ -34,7 +34,7 @@ fn low() -> Lines
 fn fresh_slot(p: Pack, s: State) -> State
     ensures { λ r. ⌜ r ≡ freshSlot p s ⌝ }
 {
-    if p.fitted != 1 {
+    if !decision::fitted(p) {
         return s;
     }
     let profile = p.profile;

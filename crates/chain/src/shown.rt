@@ -10,7 +10,7 @@ pub fn line_sum(c: Chain) -> u8
     ensures { λ r. ⌜ r ≡ lineSum c ⌝ }
 {
     let d = slots::look(c);
-    if !d.on {
+    if !d.selected {
         return 0;
     }
     let s = d.state;

@@ -13,7 +13,7 @@ ghost use Rattle.decision.specs.Decision.{fittedB, outcomeAnswer, sayOf,
 
 // The selected drive, if a fitted one is.
 pub struct Seen {
-    pub on: bool,
+    pub selected: bool,
     pub place: Place,
     pub profile: Profile,
     pub state: State,

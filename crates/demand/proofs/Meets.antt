@@ -36,12 +36,12 @@ after-told Nothing = refl
 after-told (Word r) = refl
 
 module _ (p : Profile) (b : Body) where
-  met-state : (e : Edge) → unit.metOf p b e .state ≡ stood (met (drive p) b e)
+  met-state : (e : Edge) → unit.edgeOf p b e .state ≡ stood (met (drive p) b e)
   met-state (Keep t) = refl
   met-state Drop = refl
   met-state (Carry n) = ap (stateOf (carryOf p b n .body)) (after-told (carryOf p b n .told))
 
-  met-answer : (e : Edge) → numberOf (outcomeAnswer (unit.metOf p b e .outcome)) ≡ met (drive p) b e .answer
+  met-answer : (e : Edge) → numberOf (outcomeAnswer (unit.edgeOf p b e .outcome)) ≡ met (drive p) b e .answer
   met-answer (Keep t) = refl
   met-answer Drop = refl
   met-answer (Carry n) = carry-answer p b n

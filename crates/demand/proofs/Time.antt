@@ -6,6 +6,7 @@ use mathlib.Core.Bool.{true, false}
 use mathlib.Core.List.{List, [], _∷_, map}
 use lib.ListN.{length}
 use borrow.Author.Tests.{eq-eqb}
+use Rattle.counts.proofs.Slots.{map-map, map-at}
 use Rattle.handshake.specs.Transfer.{openB}
 use Rattle.pack.specs.Packs.{noPack}
 use Rattle.drive.specs.declared.State.{State}
@@ -25,7 +26,6 @@ use Rattle.exchange.specs.Host.{micros, Still, waits, Going, going, sends, goes
 use Rattle.exchange.specs.Waits.{timeOf}
 use Rattle.demand.specs.Decided.{Lent, decided}
 use Rattle.demand.specs.AtOnce.{passed}
-use Rattle.demand.proofs.Slots.{map-map, map-at}
 use Rattle.demand.proofs.Meets.{slot-pass-pass}
 use Rattle.demand.proofs.Here.{there, none-passes}
 

@@ -29,7 +29,7 @@ use Rattle.demand.specs.Decided.{Lent, driveOf}
 -- a sound chain with a fitted drive selected, both gates off, request low, and no transfer open
 pub record Resting (c : Chain) : Type 0 where
   pub sound : soundB c ≡ true
-  pub selected : lookOf c .on ≡ true
+  pub selected : lookOf c .selected ≡ true
   pub writegate : c .lines .writegate ≡ 0
   pub readgate : c .lines .readgate ≡ 0
   pub request : c .lines .request ≡ 0

@@ -28,7 +28,7 @@ use Rattle.word.specs.Rules.{carryOf}
 use Rattle.word.proofs.Laws.{told-reply, word-leaves}
 use Rattle.word.proofs.Limits.{limits-kept}
 use Rattle.unit.specs.declared.Lines.{Lines}
-use Rattle.unit.specs.Request.{afterWord, carriedOut, metOf, gatedB, requestRises, requestFalls}
+use Rattle.unit.specs.Request.{afterWord, carriedOut, edgeOf, gatedB, requestRises, requestFalls}
 use Rattle.unit.specs.Sound.{lineTests, linesB, writingB, readingB, soundB}
 use Rattle.unit.proofs.Facts.{Selected, selected, Reads}
 use Rattle.unit.specs.Lines.{with-request}
@@ -89,7 +89,7 @@ module _ (p : Profile) (v : validB p ≡ true) (l : Lines) (s : State) where
       let m = with-request 1 l in
       let drops = dropped-sound sound in
       let left = rise-left (l .command) (s .transfer) (leb-true _ _ (each (lineTests l) k .1 .1 .1 .1 .0)) (rw low at (f .left)) in
-      let or = by-test (λ (e : Edge). soundB p m true (metOf p (s .body) e .state) ≡ true) in
+      let or = by-test (λ (e : Edge). soundB p m true (edgeOf p (s .body) e .state) ≡ true) in
       or (gatedB l) _ _ (λ _. drops) λ off.
       let e = both-off (eqb (l .writegate) 1) (eqb (l .readgate) 1) off in
       let shut = write-gate-off p l s f (eqb-false _ _ (e .0)) in
@@ -117,7 +117,7 @@ module _ (p : Profile) (v : validB p ≡ true) (l : Lines) (s : State) where
       let q = sound-parts p l true s sound in
       let m = with-request 0 l in
       let left : leftB 1 (s .transfer) ≡ true = rw high at (f .left) in
-      let or = by-test (λ (e : Edge). soundB p m true (metOf p (s .body) e .state) ≡ true) in
+      let or = by-test (λ (e : Edge). soundB p m true (edgeOf p (s .body) e .state) ≡ true) in
       or (not (eqb (s .transfer .acknowledge) 1)) _ _
       (λ down. from-selected p m s (record {
         limits = f .limits;

@@ -13,8 +13,7 @@ use Rattle.unit.specs.declared.Lines.{Lines}
 use Rattle.decision.specs.declared.Change.the-variants as change
 use Rattle.decision.specs.declared.Deed.the-variants as deed
 use Rattle.decision.specs.declared.Decision.{Decision}
-use Rattle.decision.specs.Decision.{fittedB}
-use Rattle.decision.specs.Decision.{sayOf}
+use Rattle.decision.specs.Decision.{fittedB, sayOf}
 
 -- "3 on a fixed drive"
 unfoldable pub fixedChange : Pack → ℕ → Bool

@@ -16,5 +16,5 @@ unfoldable pub passOf : Seen → Lines → Micros → Decision
 passOf d l us = record {
   lines = l;
   change = change.Pass us;
-  deed = deed.Say (if d .on then outcomeAnswer (time.passOf us (d .state) .outcome) else Taken);
+  deed = deed.Say (if d .selected then outcomeAnswer (time.passOf us (d .state) .outcome) else Taken);
 }

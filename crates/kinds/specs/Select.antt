@@ -16,8 +16,7 @@ use Rattle.decision.specs.declared.Change.the-variants.{One, Two}
 use Rattle.decision.specs.declared.Deed.the-variants.{Say}
 use Rattle.decision.specs.declared.Decision.{Decision}
 use Rattle.decision.specs.declared.Seen.{Seen}
-use Rattle.decision.specs.Decision.{fittedB}
-use Rattle.decision.specs.Decision.{outcomeAnswer, heardOf, ruledOf}
+use Rattle.decision.specs.Decision.{fittedB, outcomeAnswer, heardOf, ruledOf}
 
 -- "Of the answers 5, 4, 3, 0 the first that applies is given": a fault of the drive left, else what comes of the one entered
 abbrev pub eitherAnswer : Outcome → Answer → Answer
@@ -40,7 +39,7 @@ bothOf slot left entered l = record {
 unfoldable pub movedOf : Seen → Lines → Lines → Pack → State → Decision
 movedOf d l m p s =
     if fittedB p then
-    (if d .on then bothOf (l .select) (leftOf (d .state)) (metOf (p .profile) (l .heads) s) m
+    (if d .selected then bothOf (l .select) (leftOf (d .state)) (metOf (p .profile) (l .heads) s) m
     else ruledOf m (metOf (p .profile) (l .heads) s))
-    else if d .on then leftAlone (l .select) (leftOf (d .state)) m
+    else if d .selected then leftAlone (l .select) (leftOf (d .state)) m
     else heardOf m false

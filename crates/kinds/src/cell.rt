@@ -21,7 +21,7 @@ fn place_of(d: Seen, position: Position) -> usize
 pub fn data_cell(d: Seen, l: Lines, position: Position, byte: u8) -> Decision
     ensures { λ r. ⌜ r ≡ cellOf d l position byte ⌝ }
 {
-    if !d.on {
+    if !d.selected {
         return decision::say(l, Answer::Unselected);
     }
     if position.0 >= d.profile.shape.track.0 {

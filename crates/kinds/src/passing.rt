@@ -17,7 +17,7 @@ pub fn pass(d: Seen, l: Lines, us: Micros) -> Decision
     let s = d.state;
     let r = time::pass(s, us);
     let outcome = r.outcome;
-    if d.on {
+    if d.selected {
         return Decision {
             lines: l,
             change: Change::Pass(us),

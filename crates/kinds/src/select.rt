@@ -61,13 +61,13 @@ pub fn moved(d: Seen, l: Lines, m: Lines, p: Pack, s: State) -> Decision
     let h = l.heads;
     if decision::fitted(p) {
         let entered = heads::meets(profile, s, h);
-        if d.on {
-            return both(l.select, left::left(left), entered, m);
+        if d.selected {
+            return both(l.select, heads::left(left), entered, m);
         }
         return decision::ruled(m, entered);
     }
-    if d.on {
-        return left_alone(l.select, left::left(left), m);
+    if d.selected {
+        return left_alone(l.select, heads::left(left), m);
     }
     decision::heard(m, false)
 }

@@ -75,7 +75,7 @@ module _ (c : Chain) (file : List ℕ) where
     enters = λ slot off f m. ruled (enteredOf c slot .outcome);
     leaves = λ slot on n m. either (leftOf (d .state) .outcome) answer.Unselected (small answer.Unselected (omega arith));
     swaps = λ slot on f m. either (leftOf (d .state) .outcome) (outcomeAnswer (enteredOf c slot .outcome)) (ruled (enteredOf c slot .outcome));
-    passes = λ us. timed (d .on) (time.passOf us (d .state) .outcome);
+    passes = λ us. timed (d .selected) (time.passOf us (d .state) .outcome);
     past = λ position byte on. ((λ z. omega arith), (λ z. omega arith));
     writes = λ position byte on t w. small answer.Written (omega arith);
     reads = λ position byte on t r w. ((λ z. omega arith), (λ z. omega arith));

@@ -19,7 +19,8 @@ use Rattle.laws.specs.Run.{Numbers, chainAfter, fileAfter, SoundOver}
 use Rattle.laws.proofs.Fitted.{whole-sound, fitted-length}
 use Rattle.laws.proofs.Kept.{sound-kept}
 
-deed-long : (x : Deed) (file : List ℕ) → length (deeds.fileAfter x file) ≡ length file
+-- a deed leaves the file as long as it was
+pub deed-long : (x : Deed) (file : List ℕ) → length (deeds.fileAfter x file) ≡ length file
 deed-long (Say a) file = refl
 deed-long (Read i) file = refl
 deed-long (Write i byte) file = length-set file i byte

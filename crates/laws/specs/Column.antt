@@ -40,7 +40,7 @@ linesTaken e c = record { packs = c .packs; states = c .states; lines = linesAft
 abbrev pub leftBehind : Event → Chain → Chain
 leftBehind e c = record {
   packs = c .packs;
-  states = if lookOf c .on then putOf (c .states) (c .lines .select) (readFalls (lookOf c .state)) else c .states;
+  states = if lookOf c .selected then putOf (c .states) (c .lines .select) (readFalls (lookOf c .state)) else c .states;
   lines = linesAfter e (c .lines);
   length = c .length;
 }

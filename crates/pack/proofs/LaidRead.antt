@@ -12,8 +12,9 @@ use lib.Seq.{getD-drop, take-at, length-take-le, drop-drop}
 use Rattle.counts.specs.declared.Place.{Place}
 use Rattle.counts.specs.Choice.{if_then_else_}
 use Rattle.counts.specs.Bytes.{Bytes}
-use Rattle.profile.specs.declared.Profile.{Profile}
-use Rattle.profile.specs.Profile.{mediumOf}
+use Rattle.counts.proofs.Choice.{never}
+use Rattle.trailer.specs.declared.Profile.{Profile}
+use Rattle.trailer.specs.Profile.{mediumOf}
 use Rattle.trailer.specs.Bytes.{trailerOf}
 use Rattle.profile.specs.Valid.{validB}
 use Rattle.profile.proofs.Facts.{ranges}
@@ -32,9 +33,6 @@ use Rattle.pack.specs.File.{Contents, packOf, fileOf, firstSlot, Standin
 use Rattle.pack.proofs.Laying.{done}
 use Rattle.pack.proofs.Back.{Good, good, lastTrailer}
 use Rattle.pack.proofs.ReadLaid.{read-file}
-
-never : _≡_ {A = ℕ} 0 1 → ⊥
-never z = omega arith
 
 -- the packs that a file is made of, its slots as reading found them
 pub record Made (l : List ℕ) (limit : ℕ) (found slots : List Pack) : Type 0 where

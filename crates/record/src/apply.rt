@@ -29,7 +29,7 @@ fn put(states: [State; 7], slot: u8, s: State) -> [State; 7]
 fn pass_slot(p: Pack, s: State, us: Micros) -> State
     ensures { λ r. ⌜ r ≡ passSlot us p s ⌝ }
 {
-    if p.fitted != 1 {
+    if !decision::fitted(p) {
         return s;
     }
     let r = time::pass(s, us);

@@ -5,26 +5,46 @@ use decision::Seen;
 use decision::done;
 use decision::heard;
 use decision::ruled;
-use rules::heads;
+use drive::Ruled;
+use drive::gates;
+use drive::heads;
 use unit::Lines;
 use unit::request;
 ghost use mathlib.Core.Path.{_≡_};
-ghost use Rattle.signals.specs.Signals.{writeGateOf, readGateOf, dataOf, requestOf, headsOf};
+ghost use Rattle.signals.specs.Signals.{signalOf, headsOf, writeRule, writeGateOf, readRule, readGateOf, dataOf, requestRule, requestOf};
+
+// A line is set, from l to m; where that moves it, the selected drive's rule gives r.
+fn signal(d: Seen, l: Lines, m: Lines, same: bool, r: Ruled) -> Decision
+    ensures { λ x. ⌜ x ≡ signalOf d l m same r ⌝ }
+{
+    if same {
+        return heard(l, d.selected);
+    }
+    if !d.selected {
+        return heard(m, false);
+    }
+    ruled(m, r)
+}
 
 pub fn head_lines(d: Seen, l: Lines, h: Head) -> Decision
     ensures { λ r. ⌜ r ≡ headsOf d l h ⌝ }
 {
     let mut m = l;
     m.heads = h;
-    if l.heads.0 == h.0 {
-        return heard(l, d.on);
-    }
-    if !d.on {
-        return heard(m, false);
-    }
     let p = d.profile;
     let s = d.state;
-    ruled(m, heads::meets(p, s, h))
+    signal(d, l, m, l.heads.0 == h.0, heads::meets(p, s, h))
+}
+
+fn write_rule(d: Seen, l: Lines, level: u8) -> Ruled
+    ensures { λ r. ⌜ r ≡ writeRule d l level ⌝ }
+{
+    let p = d.profile;
+    let s = d.state;
+    if level == 1 {
+        return gates::write_rises(p, s, l.readgate);
+    }
+    done(gates::write_falls(s))
 }
 
 pub fn write_gate(d: Seen, l: Lines, level: u8) -> Decision
@@ -32,18 +52,18 @@ pub fn write_gate(d: Seen, l: Lines, level: u8) -> Decision
 {
     let mut m = l;
     m.writegate = level;
-    if l.writegate == level {
-        return heard(l, d.on);
-    }
-    if !d.on {
-        return heard(m, false);
-    }
+    signal(d, l, m, l.writegate == level, write_rule(d, l, level))
+}
+
+fn read_rule(d: Seen, l: Lines, level: u8) -> Ruled
+    ensures { λ r. ⌜ r ≡ readRule d l level ⌝ }
+{
     let p = d.profile;
     let s = d.state;
     if level == 1 {
-        return ruled(m, gates::write_rises(p, s, l.readgate));
+        return gates::read_rises(p, s, l.writegate);
     }
-    ruled(m, done(gates::write_falls(s)))
+    done(gates::read_falls(s))
 }
 
 pub fn read_gate(d: Seen, l: Lines, level: u8) -> Decision
@@ -51,18 +71,7 @@ pub fn read_gate(d: Seen, l: Lines, level: u8) -> Decision
 {
     let mut m = l;
     m.readgate = level;
-    if l.readgate == level {
-        return heard(l, d.on);
-    }
-    if !d.on {
-        return heard(m, false);
-    }
-    let p = d.profile;
-    let s = d.state;
-    if level == 1 {
-        return ruled(m, gates::read_rises(p, s, l.writegate));
-    }
-    ruled(m, done(gates::read_falls(s)))
+    signal(d, l, m, l.readgate == level, read_rule(d, l, level))
 }
 
 pub fn data(d: Seen, l: Lines, level: u8) -> Decision
@@ -70,7 +79,18 @@ pub fn data(d: Seen, l: Lines, level: u8) -> Decision
 {
     let mut m = l;
     m.command = level;
-    heard(m, d.on)
+    heard(m, d.selected)
+}
+
+fn request_rule(d: Seen, l: Lines, level: u8) -> Ruled
+    ensures { λ r. ⌜ r ≡ requestRule d l level ⌝ }
+{
+    let p = d.profile;
+    let s = d.state;
+    if level == 1 {
+        return request::rises(p, s, l);
+    }
+    request::falls(p, s)
 }
 
 pub fn transfer_request(d: Seen, l: Lines, level: u8) -> Decision
@@ -78,16 +98,5 @@ pub fn transfer_request(d: Seen, l: Lines, level: u8) -> Decision
 {
     let mut m = l;
     m.request = level;
-    if l.request == level {
-        return heard(l, d.on);
-    }
-    if !d.on {
-        return heard(m, false);
-    }
-    let p = d.profile;
-    let s = d.state;
-    if level == 1 {
-        return ruled(m, request::rises(p, s, l));
-    }
-    ruled(m, request::falls(p, s))
+    signal(d, l, m, l.request == level, request_rule(d, l, level))
 }

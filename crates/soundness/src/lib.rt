@@ -29,7 +29,7 @@ fn place(p: Pack, slot: u8, at: usize) -> Placed
     if p.fitted > 1 {
         return Placed { ok: false, end: at };
     }
-    if p.fitted != 1 {
+    if !decision::fitted(p) {
         return Placed { ok: true, end: at };
     }
     let shape = p.profile.shape;
@@ -58,7 +58,7 @@ fn places_ok(packs: [Pack; 7], length: u32) -> bool
 fn drive_ok(p: Pack, s: State, l: Lines) -> bool
     ensures { λ r. ⌜ r ≡ driveB l p s ⌝ }
 {
-    if p.fitted != 1 {
+    if !decision::fitted(p) {
         return true;
     }
     let profile = p.profile;

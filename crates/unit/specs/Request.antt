@@ -28,17 +28,17 @@ afterWord (Word response) = respondingWith response
 abbrev pub carriedOut : Carried → Ruled
 carriedOut c = ruled (c .outcome) (stateOf (c .body) (afterWord (c .told)))
 
-abbrev pub metOf : Profile → Body → Edge → Ruled
-metOf p b (Keep t) = ruled Done (stateOf b t)
-metOf p b Drop = ruled Fault (droppedOf b)
-metOf p b (Carry n) = carriedOut (carryOf p b n)
+abbrev pub edgeOf : Profile → Body → Edge → Ruled
+edgeOf p b (Keep t) = ruled Done (stateOf b t)
+edgeOf p b Drop = ruled Fault (droppedOf b)
+edgeOf p b (Carry n) = carriedOut (carryOf p b n)
 
 -- "either gate on"
 abbrev pub gatedB : Lines → Bool
 gatedB l = eqb (l .writegate) 1 || eqb (l .readgate) 1
 
 unfoldable pub requestRises : Profile → Lines → State → Ruled
-requestRises p l s = metOf p (s .body) (riseOf (gatedB l) (calmB (s .body)) (l .command) (s .transfer))
+requestRises p l s = edgeOf p (s .body) (riseOf (gatedB l) (calmB (s .body)) (l .command) (s .transfer))
 
 unfoldable pub requestFalls : Profile → State → Ruled
-requestFalls p s = metOf p (s .body) (fallOf (s .transfer))
+requestFalls p s = edgeOf p (s .body) (fallOf (s .transfer))

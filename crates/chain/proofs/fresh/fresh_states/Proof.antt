@@ -6,7 +6,7 @@ use native.Mathlib.Omega.{arith}
 use borrow.Author.Needs.{needs}
 use lib.ListN.{length}
 use Rattle.chain.specs.Fresh.{freshSlot}
-use Rattle.record.proofs.Loops.{withTo, with-turn, with-done}
+use Rattle.counts.proofs.Loops.{withTo, with-turn, with-done}
 use Rattle.chain.proofs.fresh.fresh_states.Statement.{statement}
 use Rattle.chain.proofs.fresh.fresh_states.Tie as tie
 

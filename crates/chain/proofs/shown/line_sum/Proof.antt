@@ -10,7 +10,7 @@ look-requires c κs = search needs
 
 returns : tie.Need-returns
 unfolding lineSum
-returns c = simp (← c .before .before .look .ensures, not-true (c .before .before .look .result .on) (c .if1 .taken))
+returns c = simp (← c .before .before .look .ensures, not-true (c .before .before .look .result .selected) (c .if1 .taken))
 
 sum-requires : tie.Need-sum-requires
 sum-requires c κs = search needs
@@ -20,7 +20,7 @@ unfolding lineSum
 returns-2 c =
     let b2 = c .before .before in
     let b4 = b2 .before .before in
-    simp (← b4 .look .ensures, not-false (b4 .look .result .on) (b2 .if1 .left), c .sum .ensures)
+    simp (← b4 .look .ensures, not-false (b4 .look .result .selected) (b2 .if1 .left), c .sum .ensures)
 
 pub line-sum-spec : {M : Type 1} → statement M
 line-sum-spec = tie.close (tie.spec look-requires returns sum-requires returns-2)
