@@ -5,7 +5,7 @@ use mathlib.Core.Logic.{inl}
 use Prim.Native.Nat.{ℕ, _+_, _<_}
 use Rattle.counts.specs.declared.Position.{Position}
 use Rattle.counts.proofs.Choice.{never}
-use Rattle.trailer.specs.Profile.{mediumOf}
+use Rattle.profile.specs.Profile.{mediumOf}
 use Rattle.drive.specs.Status.{attentionB}
 use Rattle.gates.proofs.Facts.{Usable, usable}
 use Rattle.event.specs.declared.Answer.{Answer}

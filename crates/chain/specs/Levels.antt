@@ -2,7 +2,7 @@
 use mathlib.Core.Bool.{Bool, true, false, not}
 use lib.Dec.{eqb}
 use Rattle.drive.specs.declared.Ruled.{Ruled}
-use Rattle.drive.specs.Heads.{metOf}
+use Rattle.rules.specs.Heads.{metOf}
 use Rattle.event.specs.declared.Event.{Event}
 use Rattle.event.specs.declared.Event.the-variants.{Select, Heads, WriteGate, ReadGate, Data, Request, Pass, Cell, Condition}
 use Rattle.unit.specs.declared.Lines.{Lines}

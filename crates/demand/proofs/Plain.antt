@@ -4,14 +4,14 @@ use native.Mathlib.Omega.{arith}
 use mathlib.Core.Path.{_≡_, refl, sym, _∙_}
 use mathlib.Core.Bool.{true, false}
 use mathlib.Core.List.{List, [], _∷_}
-use Rattle.trailer.specs.declared.Profile.{Profile}
+use Rattle.profile.specs.declared.Profile.{Profile}
 use Rattle.handshake.specs.Transfer.{noTransfer}
 use Rattle.handshake.specs.Edges.{waitOf}
 use Rattle.drive.specs.declared.Body.{Body}
 use Rattle.drive.specs.State.{stateOf}
 use Rattle.drive.specs.Faults.{latchBit}
 use Rattle.drive.specs.Status.{calmB, completeB}
-use Rattle.drive.specs.Time.{passBody, passOf}
+use Rattle.rules.specs.Time.{passBody, passOf}
 use Rattle.word.specs.declared.Told.the-variants.{Nothing}
 use Rattle.word.specs.Rules.{answered, carryOf, plainOf}
 use Rattle.keeps.proofs.Time.{calm-stays, body-twice}

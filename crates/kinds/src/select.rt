@@ -62,12 +62,12 @@ pub fn moved(d: Seen, l: Lines, m: Lines, p: Pack, s: State) -> Decision
     if decision::fitted(p) {
         let entered = heads::meets(profile, s, h);
         if d.selected {
-            return both(l.select, heads::left(left), entered, m);
+            return both(l.select, left::left(left), entered, m);
         }
         return decision::ruled(m, entered);
     }
     if d.selected {
-        return left_alone(l.select, heads::left(left), m);
+        return left_alone(l.select, left::left(left), m);
     }
     decision::heard(m, false)
 }

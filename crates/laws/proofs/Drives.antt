@@ -13,8 +13,8 @@ use Rattle.counts.specs.Slots.{mapWith}
 use Rattle.counts.proofs.Choice.{by-test}
 use Rattle.counts.proofs.Slots.{map-at, all-at, all-from, no-shorter}
 use Rattle.counts.proofs.Tests.{join, within-both}
-use Rattle.trailer.specs.Valid.{validB}
-use Rattle.trailer.proofs.Facts.{ranges}
+use Rattle.profile.specs.Valid.{validB}
+use Rattle.profile.proofs.Facts.{ranges}
 use Rattle.pack.specs.declared.Pack.{Pack}
 use Rattle.pack.specs.Packs.{noPack}
 use Rattle.drive.specs.declared.State.{State}

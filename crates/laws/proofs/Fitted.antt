@@ -13,10 +13,10 @@ use Rattle.counts.specs.Bytes.{Bytes}
 use Rattle.counts.specs.Slots.{mapWith, allWith}
 use Rattle.counts.proofs.Choice.{either-way, guarded, never}
 use Rattle.counts.proofs.Tests.{join}
-use Rattle.trailer.specs.declared.Profile.{Profile}
-use Rattle.trailer.specs.Profile.{mediumOf}
-use Rattle.trailer.specs.Valid.{validB}
-use Rattle.trailer.proofs.Facts.{ranges}
+use Rattle.profile.specs.declared.Profile.{Profile}
+use Rattle.profile.specs.Profile.{mediumOf}
+use Rattle.profile.specs.Valid.{validB}
+use Rattle.profile.proofs.Facts.{ranges}
 use Rattle.pack.specs.declared.Pack.{Pack}
 use Rattle.pack.specs.declared.Refusal.the-variants.{Large}
 use Rattle.pack.specs.declared.read.Packs.{Packs}

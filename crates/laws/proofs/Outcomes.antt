@@ -7,7 +7,7 @@ use Rattle.counts.specs.declared.Head.{Head}
 use Rattle.counts.specs.declared.Micros.{Micros}
 use Rattle.counts.specs.Choice.{if_then_else_}
 use Rattle.counts.proofs.Choice.{either-way, never}
-use Rattle.trailer.specs.declared.Profile.{Profile}
+use Rattle.profile.specs.declared.Profile.{Profile}
 use Rattle.handshake.specs.declared.Edge.{Edge}
 use Rattle.handshake.specs.declared.Edge.the-variants.{Keep, Drop, Carry}
 use Rattle.handshake.specs.Transfer.{openB}

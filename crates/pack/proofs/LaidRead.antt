@@ -13,8 +13,8 @@ use Rattle.counts.specs.declared.Place.{Place}
 use Rattle.counts.specs.Choice.{if_then_else_}
 use Rattle.counts.specs.Bytes.{Bytes}
 use Rattle.counts.proofs.Choice.{never}
-use Rattle.trailer.specs.declared.Profile.{Profile}
-use Rattle.trailer.specs.Profile.{mediumOf}
+use Rattle.profile.specs.declared.Profile.{Profile}
+use Rattle.profile.specs.Profile.{mediumOf}
 use Rattle.trailer.specs.Bytes.{trailerOf}
 use Rattle.profile.specs.Valid.{validB}
 use Rattle.profile.proofs.Facts.{ranges}

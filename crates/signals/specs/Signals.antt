@@ -5,8 +5,8 @@ use lib.Dec.{eqb}
 use Rattle.counts.specs.declared.Head.{Head}
 use Rattle.counts.specs.Choice.{if_then_else_}
 use Rattle.drive.specs.declared.Ruled.{Ruled}
-use Rattle.drive.specs.Heads.{metOf}
-use Rattle.drive.specs.Gates.{writeRises, readRises, writeFalls, readFalls}
+use Rattle.rules.specs.Heads.{metOf}
+use Rattle.gates.specs.Gates.{writeRises, readRises, writeFalls, readFalls}
 use Rattle.unit.specs.declared.Lines.{Lines}
 use Rattle.unit.specs.Lines.{with-heads, with-writegate, with-readgate, with-command, with-request}
 use Rattle.unit.specs.Request.{requestRises, requestFalls}

@@ -15,8 +15,8 @@ use Rattle.counts.specs.Slots.{allWith}
 use Rattle.counts.proofs.Choice.{guarded}
 use Rattle.counts.proofs.Slots.{all-at}
 use Rattle.counts.proofs.Tests.{each, within-both}
-use Rattle.trailer.specs.Profile.{mediumOf}
-use Rattle.trailer.specs.Valid.{validB}
+use Rattle.profile.specs.Profile.{mediumOf}
+use Rattle.profile.specs.Valid.{validB}
 use Rattle.pack.specs.declared.Pack.{Pack}
 use Rattle.pack.specs.Packs.{noPack, longest}
 use Rattle.drive.specs.declared.State.{State}
