@@ -9,7 +9,6 @@ use crate::STATUS;
 use crate::Told;
 use crate::tally;
 use crate::tally::Tally;
-use chain::fresh;
 use handshake::Transfer;
 use record::Chain;
 

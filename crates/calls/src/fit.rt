@@ -1,6 +1,5 @@
 // A chain fitted from a pack file; a refused file leaves the record as it was.
 use crate::Coded;
-use chain::fresh;
 use pack::read::Answer;
 use record::Chain;
 ghost use mathlib.Core.Path.{_≡_};

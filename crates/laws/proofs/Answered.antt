@@ -30,7 +30,7 @@ use Rattle.decision.specs.Decision.{outcomeAnswer}
 use Rattle.decision.specs.Deeds.{saidOf}
 use Rattle.kinds.specs.Select.{eitherAnswer}
 use Rattle.kinds.specs.Passing.{passOf}
-use Rattle.chain.specs.Fresh.{fitOf}
+use Rattle.fresh.specs.Fresh.{fitOf}
 use Rattle.chain.proofs.Walk.{enteredOf, Cases, walk}
 use Rattle.judge.specs.Judge.{allowedOf, decodedOf, judgedOf}
 use Rattle.board.specs.Step.{stepOf}

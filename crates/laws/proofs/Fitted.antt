@@ -34,7 +34,7 @@ use Rattle.drive.specs.State.{freshOf}
 use Rattle.unit.specs.Sound as unit
 use Rattle.keeps.proofs.Keeps.{fresh-sound}
 use Rattle.record.specs.declared.Chain.{Chain}
-use Rattle.chain.specs.Fresh.{lowLines, freshSlot, blankStates, endOf, fitOf}
+use Rattle.fresh.specs.Fresh.{lowLines, freshSlot, blankStates, endOf, fitOf}
 use Rattle.soundness.specs.Sound.{placedOf, placesB, driveB, soundB}
 use Rattle.soundness.proofs.Facts.{placed-at}
 

@@ -12,7 +12,7 @@ use Rattle.decision.specs.declared.Deed.{Deed}
 use Rattle.decision.specs.declared.Deed.the-variants.{Say, Read, Write}
 use Rattle.decision.specs.Deeds as deeds
 use Rattle.record.specs.Apply.{applied}
-use Rattle.chain.specs.Fresh.{fitOf}
+use Rattle.fresh.specs.Fresh.{fitOf}
 use Rattle.judge.specs.Judge.{judgedOf}
 use Rattle.board.specs.Step.{stepOf, stepFile}
 use Rattle.laws.specs.Run.{Numbers, chainAfter, fileAfter, SoundOver}

@@ -1,7 +1,6 @@
 // The bus runner: fits a chain from a pack file and answers event lines. What is wrong goes to standard error.
 mod stream;
 
-use chain::fresh;
 use counts::Place;
 use libc::STDERR_FILENO;
 use pack::Refusal;

@@ -1,9 +1,9 @@
--- `chain::fresh::fresh_slot` meets its contract: each return rewrites with the tests that led there.
-use Rattle.chain.specs.Fresh.{freshSlot}
+-- `fresh::fresh_slot` meets its contract: each return rewrites with the tests that led there.
+use Rattle.fresh.specs.Fresh.{freshSlot}
 use borrow.Author.Needs.{needs}
 use borrow.Author.Tests.{not-true, not-false}
-use Rattle.chain.proofs.fresh.fresh_slot.Statement.{statement}
-use Rattle.chain.proofs.fresh.fresh_slot.Tie as tie
+use Rattle.fresh.proofs.fresh_slot.Statement.{statement}
+use Rattle.fresh.proofs.fresh_slot.Tie as tie
 
 fitted-requires : tie.Need-fitted-requires
 fitted-requires c κs = search needs

@@ -1,8 +1,8 @@
--- `chain::fresh::fit` meets its contract: each return rewrites with the tests that led there.
-use Rattle.chain.specs.Fresh.{fitOf}
+-- `fresh::fit` meets its contract: each return rewrites with the tests that led there.
+use Rattle.fresh.specs.Fresh.{fitOf}
 use borrow.Author.Needs.{needs}
-use Rattle.chain.proofs.fresh.fit.Statement.{statement}
-use Rattle.chain.proofs.fresh.fit.Tie as tie
+use Rattle.fresh.proofs.fit.Statement.{statement}
+use Rattle.fresh.proofs.fit.Tie as tie
 
 read-requires : tie.Need-read-requires
 read-requires c κs = search needs

@@ -10,7 +10,7 @@ use unit::Lines;
 ghost use mathlib.Core.Path.{_≡_};
 ghost use lib.ListN.{length};
 ghost use Rattle.counts.specs.Slots.{mapWith};
-ghost use Rattle.chain.specs.Fresh.{lowLines, freshSlot, blankStates, endOf, fitOf};
+ghost use Rattle.fresh.specs.Fresh.{lowLines, freshSlot, blankStates, endOf, fitOf};
 
 // A chain, or why its file is refused and where; the chain is then the empty one.
 pub struct Fitted {

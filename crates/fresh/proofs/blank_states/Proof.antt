@@ -1,7 +1,7 @@
--- `chain::fresh::blank_states` meets its contract: each return rewrites with the tests that led there.
+-- `fresh::blank_states` meets its contract: each return rewrites with the tests that led there.
 use borrow.Author.Needs.{needs}
-use Rattle.chain.proofs.fresh.blank_states.Statement.{statement}
-use Rattle.chain.proofs.fresh.blank_states.Tie as tie
+use Rattle.fresh.proofs.blank_states.Statement.{statement}
+use Rattle.fresh.proofs.blank_states.Tie as tie
 
 blank-requires : tie.Need-blank-requires
 blank-requires c κs = search needs

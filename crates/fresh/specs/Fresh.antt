@@ -16,7 +16,7 @@ use Rattle.drive.specs.State.{freshOf, blankState}
 use Rattle.unit.specs.declared.Lines.{Lines}
 use Rattle.decision.specs.Decision.{fittedB}
 use Rattle.record.specs.declared.Chain.{Chain}
-use Rattle.chain.specs.declared.fresh.Fitted.{Fitted}
+use Rattle.fresh.specs.declared.Fitted.{Fitted}
 
 -- "All lines are low."
 abbrev pub lowLines : Lines

@@ -1,14 +1,14 @@
--- `chain::fresh::fresh_states` meets its contract: after i turns the first i slots are fresh.
+-- `fresh::fresh_states` meets its contract: after i turns the first i slots are fresh.
 use Prim.Native.Nat.{_≤_, _-_}
 use mathlib.Core.Path.{_≡_, ap, _∙_}
 use Rattle.counts.specs.Slots.{mapWith}
 use native.Mathlib.Omega.{arith}
 use borrow.Author.Needs.{needs}
 use lib.ListN.{length}
-use Rattle.chain.specs.Fresh.{freshSlot}
+use Rattle.fresh.specs.Fresh.{freshSlot}
 use Rattle.counts.proofs.Loops.{withTo, with-turn, with-done}
-use Rattle.chain.proofs.fresh.fresh_states.Statement.{statement}
-use Rattle.chain.proofs.fresh.fresh_states.Tie as tie
+use Rattle.fresh.proofs.fresh_states.Statement.{statement}
+use Rattle.fresh.proofs.fresh_states.Tie as tie
 
 abbrev Inv-loop : tie.InvT-loop
 Inv-loop packs out₀ i₀ out i =

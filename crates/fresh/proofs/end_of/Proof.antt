@@ -1,9 +1,9 @@
--- `chain::fresh::end_of` meets its contract: each return rewrites with the tests that led there.
-use Rattle.chain.specs.Fresh.{endOf}
+-- `fresh::end_of` meets its contract: each return rewrites with the tests that led there.
+use Rattle.fresh.specs.Fresh.{endOf}
 use borrow.Author.Needs.{needs}
 use borrow.Author.Tests.{lt-ltb, le-ltb}
-use Rattle.chain.proofs.fresh.end_of.Statement.{statement}
-use Rattle.chain.proofs.fresh.end_of.Tie as tie
+use Rattle.fresh.proofs.end_of.Statement.{statement}
+use Rattle.fresh.proofs.end_of.Tie as tie
 
 enum-told : tie.Need-enum-told
 enum-told c = search needs
