@@ -7,7 +7,6 @@ pub mod tally;
 use chain::shown;
 use pack::lay;
 use profile::Profile;
-use profile::Profile;
 use record::Chain;
 use reply::Reply;
 ghost use Prim.Native.Nat.{_≤_};

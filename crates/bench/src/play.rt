@@ -9,6 +9,7 @@ use crate::STATUS;
 use crate::Told;
 use crate::tally;
 use crate::tally::Tally;
+use chain::shown;
 use handshake::Transfer;
 use record::Chain;
 
