@@ -4,7 +4,6 @@ pub mod plain;
 pub mod play;
 pub mod tally;
 
-use chain::shown;
 use pack::lay;
 use profile::Profile;
 use record::Chain;

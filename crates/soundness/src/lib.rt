@@ -1,7 +1,6 @@
 // When the chain record is one that the rules leave.
 use drive::State;
 use pack::Pack;
-use profile::Profile;
 use record::Chain;
 use unit::Lines;
 use unit::sound;

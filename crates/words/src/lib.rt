@@ -6,7 +6,6 @@ use decision::Deed;
 use drive::Outcome;
 use drive::State;
 use event::Answer;
-use pack::Pack;
 use profile::Profile;
 use record::Chain;
 use record::apply;
