@@ -25,7 +25,7 @@ use Rattle.decision.specs.declared.Seen.{Seen}
 use Rattle.record.specs.Record.{lookOf}
 use Rattle.decision.specs.Decision.{outcomeAnswer}
 use Rattle.decision.specs.Deeds.{saidOf, fileAfter}
-use Rattle.kinds.specs.Select.{eitherAnswer}
+use Rattle.select.specs.Select.{eitherAnswer}
 use Rattle.kinds.specs.Passing.{passOf}
 use Rattle.record.specs.Apply.{changedOf, applied}
 use Rattle.chain.specs.Levels.{ruleOf}

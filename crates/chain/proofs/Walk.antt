@@ -25,7 +25,7 @@ use Rattle.record.specs.Record.{slotPack, slotState, lookOf}
 use Rattle.decision.specs.Decision.{fittedB, sayOf, heardOf, ruledOf}
 use Rattle.unit.specs.Lines.{with-select, with-heads, with-writegate, with-readgate, with-command, with-request}
 use Rattle.signals.specs.Signals.{signalOf}
-use Rattle.kinds.specs.Select.{leftAlone, bothOf, movedOf}
+use Rattle.select.specs.Select.{leftAlone, bothOf, movedOf}
 use Rattle.kinds.specs.Passing.{passOf}
 use Rattle.kinds.specs.Cell.{cellPlace, touching, cellOf}
 use Rattle.kinds.specs.Condition.{fixedChange, conditionAt}

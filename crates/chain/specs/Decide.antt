@@ -9,7 +9,7 @@ use Rattle.decision.specs.declared.Seen.{Seen}
 use Rattle.decision.specs.Decision.{heardOf}
 use Rattle.unit.specs.Lines.{with-select}
 use Rattle.signals.specs.Signals.{writeGateOf, readGateOf, dataOf, requestOf, headsOf}
-use Rattle.kinds.specs.Select.{movedOf}
+use Rattle.select.specs.Select.{movedOf}
 use Rattle.kinds.specs.Passing.{passOf}
 use Rattle.kinds.specs.Cell.{cellOf}
 use Rattle.kinds.specs.Condition.{conditionAt}

@@ -5,7 +5,6 @@ use event::Event;
 use kinds::cell;
 use kinds::condition;
 use kinds::passing;
-use kinds::select;
 use record::Chain;
 use record::slots;
 ghost use mathlib.Core.Path.{_≡_};

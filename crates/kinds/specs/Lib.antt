@@ -1,4 +1,3 @@
-pub mod Select
 pub mod Passing
 pub mod Cell
 pub mod Condition

@@ -28,7 +28,7 @@ use Rattle.record.specs.Record.{lookOf}
 use Rattle.chain.specs.Levels.{ruleOf}
 use Rattle.decision.specs.Decision.{outcomeAnswer}
 use Rattle.decision.specs.Deeds.{saidOf}
-use Rattle.kinds.specs.Select.{eitherAnswer}
+use Rattle.select.specs.Select.{eitherAnswer}
 use Rattle.kinds.specs.Passing.{passOf}
 use Rattle.fresh.specs.Fresh.{fitOf}
 use Rattle.chain.proofs.Walk.{enteredOf, Cases, walk}

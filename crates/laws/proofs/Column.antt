@@ -31,7 +31,7 @@ use Rattle.record.specs.Record.{slotB, slotState, lookOf}
 use Rattle.chain.specs.Levels.{linesAfter, ruleOf}
 use Rattle.decision.specs.Decision.{outcomeAnswer}
 use Rattle.decision.specs.Deeds.{saidOf, fileAfter}
-use Rattle.kinds.specs.Select.{eitherAnswer}
+use Rattle.select.specs.Select.{eitherAnswer}
 use Rattle.kinds.specs.Passing.{passOf}
 use Rattle.kinds.specs.Cell.{cellPlace}
 use Rattle.chain.specs.Decide.{decideOf}

@@ -39,7 +39,7 @@ use Rattle.record.specs.Record.{slotPack, slotState, lookOf}
 use Rattle.decision.specs.Decision.{fittedB, outcomeAnswer}
 use Rattle.chain.specs.Levels.{linesAfter, movesB, ruleOf, askedB}
 use Rattle.decision.specs.Deeds.{saidOf}
-use Rattle.kinds.specs.Select.{eitherAnswer}
+use Rattle.select.specs.Select.{eitherAnswer}
 use Rattle.kinds.specs.Passing.{passOf}
 use Rattle.chain.specs.Decide.{decideOf}
 use Rattle.soundness.specs.Sound.{soundB}

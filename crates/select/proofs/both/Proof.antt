@@ -1,7 +1,7 @@
--- `kinds::select::both` meets its contract: each return rewrites with the tests that led there.
+-- `select::both` meets its contract: each return rewrites with the tests that led there.
 use borrow.Author.Needs.{needs}
-use Rattle.kinds.proofs.select.both.Statement.{statement}
-use Rattle.kinds.proofs.select.both.Tie as tie
+use Rattle.select.proofs.both.Statement.{statement}
+use Rattle.select.proofs.both.Tie as tie
 
 answer-of-requires : tie.Need-answer-of-requires
 answer-of-requires c κs = search needs

@@ -1,7 +1,7 @@
--- `kinds::select::left_alone` meets its contract: each return rewrites with the tests that led there.
+-- `select::left_alone` meets its contract: each return rewrites with the tests that led there.
 use borrow.Author.Needs.{needs}
-use Rattle.kinds.proofs.select.left_alone.Statement.{statement}
-use Rattle.kinds.proofs.select.left_alone.Tie as tie
+use Rattle.select.proofs.left_alone.Statement.{statement}
+use Rattle.select.proofs.left_alone.Tie as tie
 
 either-requires : tie.Need-either-requires
 either-requires c κs = search needs

@@ -12,7 +12,7 @@ use rules::heads;
 use rules::left;
 use unit::Lines;
 ghost use mathlib.Core.Path.{_≡_};
-ghost use Rattle.kinds.specs.Select.{eitherAnswer, leftAlone, bothOf, movedOf};
+ghost use Rattle.select.specs.Select.{eitherAnswer, leftAlone, bothOf, movedOf};
 
 // 5 where the drive left is at fault, else what comes of the one entered.
 fn either(left: Outcome, other: Answer) -> Answer

@@ -1,8 +1,8 @@
--- `kinds::select::moved` meets its contract: each return rewrites with the tests that led there.
-use Rattle.kinds.specs.Select.{movedOf}
+-- `select::moved` meets its contract: each return rewrites with the tests that led there.
+use Rattle.select.specs.Select.{movedOf}
 use borrow.Author.Needs.{needs}
-use Rattle.kinds.proofs.select.moved.Statement.{statement}
-use Rattle.kinds.proofs.select.moved.Tie as tie
+use Rattle.select.proofs.moved.Statement.{statement}
+use Rattle.select.proofs.moved.Tie as tie
 
 fitted-requires : tie.Need-fitted-requires
 fitted-requires c κs = search needs
