@@ -2,7 +2,6 @@
 use Rattle.counts.specs.declared.Micros.{Micros}
 use Rattle.counts.specs.Choice.{if_then_else_}
 use Rattle.rules.specs.Time as time
-use Rattle.event.specs.declared.Event.the-variants.{Pass}
 use Rattle.event.specs.declared.Answer.the-variants.{Taken}
 use Rattle.unit.specs.declared.Lines.{Lines}
 use Rattle.decision.specs.declared.Change.the-variants as change
