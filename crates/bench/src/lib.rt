@@ -6,7 +6,6 @@ pub mod tally;
 
 use chain::fresh;
 use chain::shown;
-use pack::lay;
 use profile::Profile;
 use profile::Profile;
 use record::Chain;
@@ -59,7 +58,7 @@ pub struct Met {
 fn lay(file: &mut [u8], at: usize, p: Profile)
     requires { ⌜ at ≤ length (now file) ⌝ }
 {
-    lay::lay(p, &mut file[at..]);
+    laying::lay(p, &mut file[at..]);
 }
 
 // Lays a pack at a place, and gives the place behind it.
