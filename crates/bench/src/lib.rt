@@ -4,7 +4,8 @@ pub mod plain;
 pub mod play;
 pub mod tally;
 
-use pack::lay;
+use chain::fresh;
+use chain::shown;
 use profile::Profile;
 use record::Chain;
 use reply::Reply;
@@ -56,7 +57,7 @@ pub struct Met {
 fn lay(file: &mut [u8], at: usize, p: Profile)
     requires { ⌜ at ≤ length (now file) ⌝ }
 {
-    lay::lay(p, &mut file[at..]);
+    laying::lay(p, &mut file[at..]);
 }
 
 // Lays a pack at a place, and gives the place behind it.

@@ -27,8 +27,8 @@ use Rattle.pack.specs.declared.read.Answer.the-variants.{Whole, Refused}
 use Rattle.pack.specs.Packs.{longest, noPack, noPacks, fittedPack}
 use Rattle.pack.specs.Read.{lastPack, refusedAt, andInFront, readBack, readAll}
 use Rattle.pack.specs.File.{Contents, packOf, fileOf, firstSlot, Standing, slotsOf}
-use Rattle.pack.proofs.ReadLaid.{pack-length}
-use Rattle.pack.proofs.LaidRead.{Made, file-read}
+use Rattle.laying.proofs.ReadLaid.{pack-length}
+use Rattle.laying.proofs.LaidRead.{Made, file-read}
 use Rattle.drive.specs.declared.State.{State}
 use Rattle.drive.specs.State.{freshOf}
 use Rattle.unit.specs.Sound as unit

@@ -1,5 +1,4 @@
 // The pack file: zero to seven packs, each a medium and then its trailer.
-pub mod lay;
 pub mod read;
 
 use counts::Place;

@@ -4,10 +4,9 @@
 use counts::Cylinder;
 use counts::Head;
 use counts::Position;
+use laying::Laid;
 use libc::STDIN_FILENO;
 use libc::STDOUT_FILENO;
-use pack::lay;
-use pack::lay::Laid;
 use pack::read;
 use pack::read::Answer;
 use profile::Profile;
@@ -135,14 +134,14 @@ fn large(cylinders: u16, heads: u8) -> Profile {
 }
 
 fn show_laid(r: Laid) {
-    say_number(lay::number(r) as u32);
+    say_number(laying::number(r) as u32);
     end_line();
 }
 
 fn lay(file: &mut [u8], place: usize, p: Profile)
     requires { ⌜ place ≤ length (now file) ⌝ }
 {
-    show_laid(lay::lay(p, &mut file[place..]));
+    show_laid(laying::lay(p, &mut file[place..]));
 }
 
 fn lay_smallest(file: &mut [u8; ROOM], place: u16, slot: u8) {

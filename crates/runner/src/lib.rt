@@ -4,7 +4,6 @@ mod stream;
 use counts::Place;
 use libc::STDERR_FILENO;
 use pack::Refusal;
-use pack::lay;
 use pack::read::Answer;
 use profile::Profile;
 ghost use Prim.Native.Nat.{_≤_};
@@ -45,7 +44,7 @@ fn run(file: &mut [u8]) {
 fn lay_at(file: &mut [u8], place: usize, p: Profile)
     requires { ⌜ place ≤ length (now file) ⌝ }
 {
-    lay::lay(p, &mut file[place..]);
+    laying::lay(p, &mut file[place..]);
 }
 
 // The smallest drive in slots 1 and 3.

@@ -1,13 +1,12 @@
 // Laying a pack at the start of a lent part.
-use crate::Pack;
-use crate::Refusal;
+use pack::Pack;
+use pack::Refusal;
 use profile::Profile;
 ghost use mathlib.Core.Path.{_≡_};
 ghost use Prim.Native.Nat.{_+_, _≤_};
 ghost use mathlib.Core.List.{_++_};
 ghost use lib.ListN.{length, replicate, take, drop};
-ghost use Rattle.pack.specs.Refusal.{laidNumber};
-ghost use Rattle.pack.specs.Lay.{laidAnswer, laidBytes};
+ghost use Rattle.laying.specs.Lay.{laidNumber, laidAnswer, laidBytes};
 
 pub enum Laid {
     Done,
@@ -20,7 +19,7 @@ pub fn number(a: Laid) -> u8
 {
     match a {
         Laid::Done => 0,
-        Laid::Refused(why) => crate::number(why),
+        Laid::Refused(why) => pack::number(why),
     }
 }
 

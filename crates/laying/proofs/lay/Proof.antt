@@ -1,13 +1,13 @@
--- `pack::lay::lay` meets its contract: at each return the tests that led there say what is answered and left.
+-- `laying::lay` meets its contract: at each return the tests that led there say what is answered and left.
 use mathlib.Core.Path.{_≡_, sym, _∙_}
 use mathlib.Core.Bool.{true}
 use native.Mathlib.Omega.{arith}
 use borrow.Author.Needs.{needs}
 use borrow.Author.Tests.{not-true, not-false}
 use Rattle.profile.specs.Valid.{validB}
-use Rattle.pack.proofs.Laying.{field, large, room, done, laid-all}
-use Rattle.pack.proofs.lay.lay.Statement.{statement}
-use Rattle.pack.proofs.lay.lay.Tie as tie
+use Rattle.laying.proofs.Laying.{field, large, room, done, laid-all}
+use Rattle.laying.proofs.lay.Statement.{statement}
+use Rattle.laying.proofs.lay.Tie as tie
 
 is-valid : (c : tie.Else1) → validB (c .before .before .before .args .p) ≡ true
 is-valid c = sym (c .before .valid .ensures) ∙ not-false _ (c .if1 .left)

@@ -1,13 +1,13 @@
--- `pack::lay::put` meets its contract: what is copied into the part, said of the whole.
+-- `laying::put` meets its contract: what is copied into the part, said of the whole.
 use mathlib.Core.Path.{ap, _∙_}
 use mathlib.Core.List.{List, _++_}
 use Prim.Native.Nat.{ℕ, _-_}
 use native.Mathlib.Omega.{arith}
 use lib.ListN.{length, take, drop}
-use Rattle.pack.proofs.Lists.{put-in}
+use Rattle.laying.proofs.Lists.{put-in}
 use borrow.Author.Needs.{needs}
-use Rattle.pack.proofs.lay.put.Statement.{statement}
-use Rattle.pack.proofs.lay.put.Tie as tie
+use Rattle.laying.proofs.put.Statement.{statement}
+use Rattle.laying.proofs.put.Tie as tie
 
 slice-aggregate-copy : tie.Need-slice-aggregate-copy
 slice-aggregate-copy c = search needs

@@ -9,12 +9,12 @@ use Rattle.profile.specs.declared.Profile.{Profile}
 use Rattle.profile.specs.Profile.{mediumOf}
 use Rattle.trailer.specs.Bytes.{trailerOf}
 use Rattle.profile.specs.Valid.{validB}
 use Rattle.pack.specs.declared.Refusal.the-variants.{Field, Large, Room}
-use Rattle.pack.specs.declared.lay.Laid.{Laid}
-use Rattle.pack.specs.declared.lay.Laid.the-variants.{Done, Refused}
+use Rattle.laying.specs.declared.Laid.{Laid}
+use Rattle.laying.specs.declared.Laid.the-variants.{Done, Refused}
 use Rattle.pack.specs.Packs.{longest}
-use Rattle.pack.specs.Lay.{packLength, laidAnswer, laidPack, afterLaying, laidBytes}
-use Rattle.pack.proofs.Lists.{zeros-put}
+use Rattle.laying.specs.Lay.{packLength, laidAnswer, laidPack, afterLaying, laidBytes}
+use Rattle.laying.proofs.Lists.{zeros-put}
 
 module _ (p : Profile) (l : List ℕ) where
   abbrev pub Leaves : Laid → List ℕ → Type 0

@@ -19,20 +19,20 @@ use Rattle.trailer.specs.Bytes.{trailerOf}
 use Rattle.profile.specs.Valid.{validB}
 use Rattle.profile.proofs.Facts.{ranges}
 use Rattle.trailer.proofs.RoundTrip.{laid-read}
 use Rattle.pack.specs.declared.Pack.{Pack}
 use Rattle.pack.specs.declared.Refusal.{Refusal}
 use Rattle.pack.specs.declared.Refusal.the-variants.{Large}
 use Rattle.pack.specs.declared.read.Packs.{Packs}
 use Rattle.pack.specs.declared.read.Last.{Last}
 use Rattle.pack.specs.declared.read.Last.the-variants.{Found, Refused}
 use Rattle.pack.specs.declared.read.Answer.the-variants as answer
 use Rattle.pack.specs.Packs.{longest, noPacks, fittedPack}
 use Rattle.pack.specs.Read.{lastPack, refusedAt, andInFront, readBack, readAll}
-use Rattle.pack.specs.Lay.{packLength, laidPack, laidBytes}
+use Rattle.laying.specs.Lay.{packLength, laidPack, laidBytes}
 use Rattle.pack.specs.File.{Contents, packOf, fileOf, firstSlot, Standing, slotsOf}
-use Rattle.pack.proofs.Laying.{done}
+use Rattle.laying.proofs.Laying.{done}
 use Rattle.pack.proofs.Back.{Good, good, lastTrailer}
-use Rattle.pack.proofs.ReadLaid.{read-file}
+use Rattle.laying.proofs.ReadLaid.{read-file}
 
 -- the packs that a file is made of, its slots as reading found them
 pub record Made (l : List ℕ) (limit : ℕ) (found slots : List Pack) : Type 0 where

@@ -10,10 +10,16 @@ use Rattle.profile.specs.Profile.{mediumOf}
 use Rattle.trailer.specs.Form.{trailerLength}
 use Rattle.trailer.specs.Bytes.{trailerOf}
 use Rattle.profile.specs.Valid.{validB}
 use Rattle.pack.specs.declared.Refusal.the-variants.{Field, Large, Room}
-use Rattle.pack.specs.declared.lay.Laid.{Laid}
-use Rattle.pack.specs.declared.lay.Laid.the-variants.{Done, Refused}
+use Rattle.pack.specs.Refusal.{numberOf}
 use Rattle.pack.specs.Packs.{longest}
+use Rattle.laying.specs.declared.Laid.{Laid}
+use Rattle.laying.specs.declared.Laid.the-variants.{Done, Refused}
+
+-- 0 where nothing is refused
+abbrev pub laidNumber : Laid → ℕ
+laidNumber Done = 0
+laidNumber (Refused why) = numberOf why
 
 abbrev pub packLength : Profile → ℕ
 packLength p = mediumOf (p .shape) + trailerLength
