@@ -4,7 +4,6 @@ pub mod plain;
 pub mod play;
 pub mod tally;
 
-use chain::shown;
 use profile::Profile;
 use record::Chain;
 use reply::Reply;
