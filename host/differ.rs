@@ -1,7 +1,7 @@
 //! The library, through C, against the twin. Random chains of all profiles,
 //! random and structured events; answer, value, lines, the whole record and
 //! the whole file are compared after each event. Then records with any bytes
-//! changed, words at once, damaged pack files, packs laid, and a file over
+//! changed, files of another length, words at once, damaged pack files, packs laid, and a file over
 //! 2 GiB. A difference prints the shortest sequence found.
 //!
 //!     differ [EVENTS [SEED]]
@@ -393,6 +393,25 @@ fn changed_record(dice: &mut Dice, pair: &Pair) -> bool {
     false
 }
 
+/// A lent file of another length: refused with 23, behind 20 and 21; record and file are left.
+fn other_length(dice: &mut Dice, pair: &Pair) -> Option<u8> {
+    let event = (dice.upto(9), dice.pick(&[0, 1, 1, 2, 7, 100, 70_000]), dice.pick(&[0, 0, 0, 1, 3]));
+    let mut file = pair.file.clone();
+    match dice.upto(2) {
+        0 => file.push(dice.upto(255) as u8),
+        1 => file.truncate(file.len().saturating_sub(1)),
+        _ => file.clear(),
+    }
+    let (mut record, mut chain, mut twins) = (pair.record, pair.chain, file.clone());
+    let ours = esdi::event(&mut record, &mut file, event.0, event.1, event.2);
+    let theirs = twin::step(&mut chain, &mut twins, event.0, event.1, event.2);
+    if ours == theirs && record == esdi::record_of(&chain) && file == twins {
+        return Some(ours.0);
+    }
+    println!("DIFFERENCE on a file of {} bytes, the record's {}, event {:?}: {:?}, the twin's {:?}", file.len(), pair.file.len(), event, ours, theirs);
+    None
+}
+
 /// A word at once, as the twin's plain word rules.
 fn word_at_once(dice: &mut Dice, pair: &Pair) -> bool {
     let (slot, word) = (dice.pick(&[0, 1, 2, 3, 4, 5, 6, 7, 8]), if dice.one_in(20) { dice.between(131_072, 200_000) } else { some_word(dice) });
@@ -507,7 +526,7 @@ fn run() -> bool {
     let number = |i: usize, other: u64| arguments.get(i).map_or(other, |s| s.parse().expect("a number"));
     let (most, mut dice) = (number(0, 10_000_000), Dice(number(1, 1)));
     let (mut events, mut records, mut words, mut files, mut lays) = (0u64, 0u64, 0u64, 0u64, 0u64);
-    let mut answers = std::collections::BTreeMap::new();
+    let (mut answers, mut lengths) = (std::collections::BTreeMap::new(), std::collections::BTreeMap::new());
     while events < most {
         let profiles = some_profiles(&mut dice);
         let sequence = some_events(&mut dice, &profiles);
@@ -524,6 +543,10 @@ fn run() -> bool {
                 if !changed_record(&mut dice, &pair) || !word_at_once(&mut dice, &pair) {
                     return false;
                 }
+                match other_length(&mut dice, &pair) {
+                    Some(answer) => *lengths.entry(answer).or_insert(0u64) += 1,
+                    None => return false,
+                }
                 records += 1;
                 words += 1;
             }
@@ -537,6 +560,7 @@ fn run() -> bool {
     }
     println!("{} events, {} records with bytes changed, {} words at once, {} pack files, {} packs laid: 0 differences", events, records, words, files, lays);
     println!("answers to events, by number: {:?}", answers);
+    println!("answers over a file of another length: {:?}", lengths);
     large()
 }
 

@@ -8,7 +8,7 @@
  * empty chain: no drive, all lines low, a file of length 0. Fields may be read at any time; a record that was written
  * to by hand is checked by every call that acts on it and refused with 22 where the rules could not have left it.
  *
- * Link with libboard.a, which `rt staticlib board` writes. */
+ * Link with libesdi.a, which `rt staticlib esdi` writes. */
 #ifndef ESDI_H
 #define ESDI_H
 

@@ -11,10 +11,10 @@ use Rattle.counts.specs.declared.Cylinder.{Cylinder}
 use Rattle.counts.specs.declared.Micros.{Micros}
 use Rattle.counts.proofs.Tests.{both, each}
 use Rattle.counts.proofs.Choice.{by-test}
-use Rattle.trailer.specs.declared.Profile.{Profile}
-use Rattle.trailer.specs.General.{soft}
-use Rattle.trailer.specs.Valid.{sectorOk, validB}
-use Rattle.trailer.proofs.Facts.{ranges}
+use Rattle.profile.specs.declared.Profile.{Profile}
+use Rattle.profile.specs.General.{soft}
+use Rattle.profile.specs.Valid.{sectorOk, validB}
+use Rattle.profile.proofs.Facts.{ranges}
 use Rattle.drive.specs.declared.Arm.{Arm}
 use Rattle.drive.specs.declared.Body.{Body}
 use Rattle.drive.specs.State.{stopped, starting, up, with-arm}

@@ -4,7 +4,7 @@ use Prim.Native.Nat.{ℕ}
 use lib.Dec.{eqb}
 use borrow.Author.Needs.{needs}
 use Rattle.counts.proofs.Choice.{by-test}
-use Rattle.trailer.specs.declared.Times.{Times}
+use Rattle.profile.specs.declared.Times.{Times}
 use Rattle.drive.specs.declared.Body.{Body}
 use Rattle.drive.specs.State.{stopped}
 use Rattle.drive.specs.Faults.{latchOf}

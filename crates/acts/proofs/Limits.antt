@@ -9,7 +9,7 @@ use Rattle.counts.specs.declared.Micros.{Micros}
 use Rattle.counts.specs.Bytes.{bit}
 use Rattle.counts.specs.Choice.{if_then_else_}
 use Rattle.counts.proofs.Tests.{both, join}
-use Rattle.trailer.specs.declared.Profile.{Profile}
+use Rattle.profile.specs.declared.Profile.{Profile}
 use Rattle.drive.specs.declared.Arm.{Arm}
 use Rattle.drive.specs.declared.Body.{Body}
 use Rattle.drive.specs.State.{starting, up, with-arm, with-motor}

@@ -6,9 +6,9 @@ use native.Mathlib.Nat.{mul-le-mul}
 use native.Mathlib.Omega.{arith}
 use borrow.Author.Tests.{le-leb}
 use Rattle.counts.specs.declared.Cylinder.{Cylinder}
-use Rattle.trailer.specs.declared.Profile.{Profile}
-use Rattle.trailer.specs.Valid.{validB}
-use Rattle.trailer.proofs.Facts.{ranges}
+use Rattle.profile.specs.declared.Profile.{Profile}
+use Rattle.profile.specs.Valid.{validB}
+use Rattle.profile.proofs.Facts.{ranges}
 use Rattle.acts.specs.Acts.{distanceOf, seekTime}
 
 -- settle ≤ 60,000, step ≤ 1,000, distance ≤ 4,095

@@ -6,7 +6,7 @@ use Rattle.counts.specs.declared.Cylinder.{Cylinder}
 use Rattle.counts.specs.declared.Micros.{Micros}
 use Rattle.counts.specs.declared.Position.{Position}
 use Rattle.counts.specs.Choice.{if_then_else_}
-use Rattle.trailer.specs.declared.Times.{Times}
+use Rattle.profile.specs.declared.Times.{Times}
 use Rattle.drive.specs.declared.Arm.{Arm}
 use Rattle.drive.specs.declared.Body.{Body}
 use Rattle.drive.specs.State.{stopped, starting, up, with-timers, with-arm, with-latched, with-sector, with-motor}

@@ -5,7 +5,7 @@ use counts::Position;
 use drive::Arm;
 use drive::Body;
 use drive::Latched;
-use trailer::Times;
+use profile::Times;
 ghost use mathlib.Core.Path.{_≡_};
 ghost use Rattle.acts.specs.Acts.{distanceOf, seekTime, motorFor, busyFor, seekOf, homedOf, recalibrateOf, clearedOf, stopOf, startOf, offsetOf, sectorOf, actedOf};
 

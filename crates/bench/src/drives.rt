@@ -3,9 +3,9 @@ use counts::Cylinder;
 use counts::Head;
 use counts::Micros;
 use counts::Position;
-use trailer::Profile;
-use trailer::Shape;
-use trailer::Times;
+use profile::Profile;
+use profile::Shape;
+use profile::Times;
 
 // Five drives of different kinds; slots 3 and 6 are empty.
 pub const MIXED: u8 = 0;
@@ -44,15 +44,6 @@ fn no_times() -> Times {
         diagnostic: none,
         offset: none,
     }
-}
-
-fn smallest(slot: u8) -> Profile {
-    let shape = shape(1, 1, 4095, 512);
-    let mut p = Profile::blank();
-    p.slot = slot;
-    p.general = 0x0242;
-    p.shape = shape;
-    p
 }
 
 // Fixed, hard sectored by the drive, the offset and the motor option, and a time for everything but its heads.
@@ -166,6 +157,6 @@ fn mixed(slot: u8) -> Profile {
 pub fn profile(which: u8, slot: u8) -> Profile {
     match which {
         MIXED => mixed(slot),
-        _ => smallest(slot),
+        _ => smallest::drive(slot),
     }
 }

@@ -4,16 +4,35 @@ pub mod plain;
 pub mod play;
 pub mod tally;
 
-use board::Stepped;
-use chain::fresh;
-use pack::lay;
+use profile::Profile;
 use record::Chain;
-use trailer::Profile;
+use reply::Reply;
 ghost use Prim.Native.Nat.{_≤_};
 ghost use lib.ListN.{length};
+ghost use Rattle.io.specs.Counts.{Counts};
 
 // Room for the longest chain's file, and more.
 pub const ROOM: usize = 131_072;
+
+// The kinds of the events that are played from here.
+pub const SELECT: u32 = 0;
+
+pub const HEADS: u32 = 1;
+
+pub const DATA: u32 = 4;
+
+pub const REQUEST: u32 = 5;
+
+pub const PASS: u32 = 6;
+
+pub const CONDITION: u32 = 8;
+
+// What the lines count in their sum.
+pub const ACKNOWLEDGE: u8 = 4;
+
+pub const STATUS: u8 = 8;
+
+pub const ATTENTION: u8 = 16;
 
 // A chain, and how much of the room is lent to it as its file.
 pub struct Bench {
@@ -36,7 +55,7 @@ pub struct Met {
 fn lay(file: &mut [u8], at: usize, p: Profile)
     requires { ⌜ at ≤ length (now file) ⌝ }
 {
-    lay::lay(p, &mut file[at..]);
+    laying::lay(p, &mut file[at..]);
 }
 
 // Lays a pack at a place, and gives the place behind it.
@@ -46,7 +65,7 @@ fn lay_behind(file: &mut [u8; ROOM], at: usize, p: Profile) -> usize {
     }
     lay(file, at, p);
     let shape = p.shape;
-    at + trailer::medium(shape) + Profile::TRAILER
+    at + profile::medium(shape) + trailer::LENGTH
 }
 
 fn lay_slot(file: &mut [u8; ROOM], at: usize, which: u8, slot: u8) -> usize {
@@ -67,11 +86,19 @@ fn lay_all(file: &mut [u8; ROOM], which: u8) -> usize {
     at
 }
 
-fn fit(file: &[u8], n: usize) -> Chain {
+// So many bytes of the room, or all that there are. The contract speaks of the room, so that `&file[..n]` wants no proof.
+fn at_most(file: &[u8], n: usize) -> usize
+    ensures { λ r. ⌜ Counts r (now (file .entry)) ⌝ }
+{
     if n > file.len() {
-        return fresh::fit(file).chain;
+        return file.len();
     }
-    fresh::fit(&file[..n]).chain
+    n
+}
+
+fn fit(file: &[u8], n: usize) -> Chain {
+    let end = at_most(file, n);
+    fresh::fit(&file[..end]).chain
 }
 
 // One of the chains that are here, fresh, its file laid anew.
@@ -81,23 +108,20 @@ pub fn fresh_chain(file: &mut [u8; ROOM], which: u8) -> Bench {
     Bench { chain, lent }
 }
 
-fn step(c: Chain, file: &mut [u8], n: usize, kind: u32, a: u32, b: u32) -> Stepped {
-    if n > file.len() {
-        return board::step(c, file, kind, a, b);
-    }
-    board::step(c, &mut file[..n], kind, a, b)
+fn reply(c: Chain, file: &mut [u8], n: usize, kind: u32, a: u32, b: u32) -> Reply {
+    let end = at_most(file, n);
+    reply::to_event(c, &mut file[..end], kind, a, b)
 }
 
 // An event on the cable.
 pub fn meet(bench: Bench, file: &mut [u8; ROOM], kind: u32, a: u32, b: u32) -> Met {
     let lent = bench.lent;
-    let s = step(bench.chain, file, lent, kind, a, b);
-    let chain = s.chain;
-    let answer = s.answer;
+    let r = reply(bench.chain, file, lent, kind, a, b);
+    let chain = r.chain;
     let told = Told {
-        answer: event::number(answer),
-        value: event::value(answer),
-        sum: fresh::line_sum(chain),
+        answer: r.answer,
+        value: r.value,
+        sum: r.sum,
     };
     let after = Bench { chain, lent };
     Met { bench: after, told }

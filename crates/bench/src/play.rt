@@ -1,10 +1,16 @@
 // Events on the cable, one by one or a word's together.
+use crate::ACKNOWLEDGE;
+use crate::ATTENTION;
 use crate::Bench;
+use crate::DATA;
+use crate::REQUEST;
 use crate::ROOM;
+use crate::STATUS;
 use crate::Told;
 use crate::tally;
 use crate::tally::Tally;
-use chain::fresh;
+use chain::shown;
+use handshake::Transfer;
 use record::Chain;
 
 // told: what the last event came to. good: what came before it, within a word, came as it must.
@@ -61,33 +67,52 @@ pub fn found(p: Play, good: bool) -> Play {
 
 // The lines while a transfer is open and request low: selected, ready and attention stay, complete is gone.
 fn open_sum(sum: u8) -> u8 {
-    sum % 4 + sum / 16 % 2 * 16
+    sum % ACKNOWLEDGE + sum / ATTENTION % 2 * ATTENTION
 }
 
 // A bit taken: the data line, then request's rise, which raises acknowledge.
 fn taken(p: Play, file: &mut [u8; ROOM], bit: u32, before: u8, open: u8) -> Play {
-    let set = kept(event(p, file, 4, bit, 0), before as u32);
-    kept(event(set, file, 5, 1, 0), open as u32 + 4)
+    let set = kept(event(p, file, DATA, bit, 0), before as u32);
+    kept(
+        event(set, file, REQUEST, 1, 0),
+        open as u32 + ACKNOWLEDGE as u32,
+    )
 }
 
 // Request's fall; the last one's answer is left to the script.
 fn fallen(p: Play, file: &mut [u8; ROOM], open: u8, last: bool) -> Play {
-    let q = event(p, file, 5, 0, 0);
+    let q = event(p, file, REQUEST, 0, 0);
     if last {
         return q;
     }
     kept(q, open as u32)
 }
 
-// The first bits of a word of seventeen.
-pub fn send(p: Play, file: &mut [u8; ROOM], word: u32, count: u32) -> Play {
+// A response bit put out: request's rise raises acknowledge, and data shows the bit.
+fn put_out(p: Play, file: &mut [u8; ROOM], bit: u32, open: u8) -> Play {
+    kept(
+        event(p, file, REQUEST, 1, 0),
+        open as u32 + ACKNOWLEDGE as u32 + bit % 2 * STATUS as u32,
+    )
+}
+
+// Request's rise for one bit, to the drive or from it.
+fn risen(p: Play, file: &mut [u8; ROOM], way: u8, bit: u32, before: u8, open: u8) -> Play {
+    if way == Transfer::TAKING {
+        return taken(p, file, bit, before, open);
+    }
+    put_out(p, file, bit, open)
+}
+
+// The first bits of seventeen, the highest first, to the drive or from it.
+fn bits(p: Play, file: &mut [u8; ROOM], way: u8, word: u32, count: u32) -> Play {
     let mut q = found(p, true);
-    let mut before = fresh::line_sum(p.bench.chain);
+    let mut before = shown::line_sum(p.bench.chain);
     let open = open_sum(before);
     let mut n = word;
     let mut left = count;
     while left > 0 {
-        q = taken(q, file, n / 65_536 % 2, before, open);
+        q = risen(q, file, way, n / 65_536 % 2, before, open);
         q = fallen(q, file, open, left == 1);
         before = open;
         n = n % 65_536 * 2;
@@ -96,23 +121,12 @@ pub fn send(p: Play, file: &mut [u8; ROOM], word: u32, count: u32) -> Play {
     q
 }
 
-// A response bit put out: request's rise raises acknowledge, and data shows the bit.
-fn put_out(p: Play, file: &mut [u8; ROOM], bit: u32, open: u8) -> Play {
-    let sum = open as u32 + 4 + bit % 2 * 8;
-    kept(event(p, file, 5, 1, 0), sum)
+// The first bits of a word of seventeen.
+pub fn send(p: Play, file: &mut [u8; ROOM], word: u32, count: u32) -> Play {
+    bits(p, file, Transfer::TAKING, word, count)
 }
 
 // A response of seventeen bits, which must be this one.
 pub fn take(p: Play, file: &mut [u8; ROOM], word: u32) -> Play {
-    let mut q = found(p, true);
-    let open = open_sum(fresh::line_sum(p.bench.chain));
-    let mut n = word;
-    let mut left: u32 = 17;
-    while left > 0 {
-        q = put_out(q, file, n / 65_536 % 2, open);
-        q = fallen(q, file, open, left == 1);
-        n = n % 65_536 * 2;
-        left -= 1;
-    }
-    q
+    bits(p, file, Transfer::RESPONDING, word, 17)
 }

@@ -33,33 +33,18 @@ pub fn one_more(n: u32) -> u32 {
     std::num::wrapping_add_u32(n, 1)
 }
 
-fn kind_counted(kinds: [u32; KINDS], kind: u32) -> [u32; KINDS] {
-    if kind > 8 {
-        return kinds;
+// One more of a number; one that is not counted changes nothing.
+fn count(counts: &mut [u32], number: usize) {
+    if number < counts.len() {
+        counts[number] = one_more(counts[number]);
     }
-    let i = kind as usize;
-    let n = one_more(kinds[i]);
-    let mut e = kinds;
-    e[i] = n;
-    e
-}
-
-fn answer_counted(answers: [u32; ANSWERS], answer: u8) -> [u32; ANSWERS] {
-    if answer > 25 {
-        return answers;
-    }
-    let i = answer as usize;
-    let n = one_more(answers[i]);
-    let mut e = answers;
-    e[i] = n;
-    e
 }
 
 pub fn counted(t: Tally, kind: u32, answer: u8) -> Tally {
-    let before = t.kinds;
-    let kinds = kind_counted(before, kind);
-    let given = t.answers;
-    let answers = answer_counted(given, answer);
+    let mut kinds = t.kinds;
+    let mut answers = t.answers;
+    count(&mut kinds, kind as usize);
+    count(&mut answers, answer as usize);
     Tally { kinds, answers }
 }
 
@@ -71,18 +56,12 @@ fn say_each(name: &[u8], i: usize, n: u32) {
     say(b"\n");
 }
 
-fn say_kinds(kinds: [u32; KINDS]) {
-    for i in 0..9 {
-        say_each(b"kind", i, kinds[i]);
-    }
-}
-
-// The answers that came at all.
-fn say_answers(answers: [u32; ANSWERS]) {
-    for i in 0..26 {
-        let n = answers[i];
+// Those that came at all.
+fn say_counts(name: &[u8], counts: &[u32]) {
+    for i in 0..counts.len() {
+        let n = counts[i];
         if n > 0 {
-            say_each(b"answer", i, n);
+            say_each(name, i, n);
         }
     }
 }
@@ -90,6 +69,6 @@ fn say_answers(answers: [u32; ANSWERS]) {
 pub fn say_all(t: Tally) {
     let kinds = t.kinds;
     let answers = t.answers;
-    say_kinds(kinds);
-    say_answers(answers);
+    say_counts(b"kind", &kinds);
+    say_counts(b"answer", &answers);
 }

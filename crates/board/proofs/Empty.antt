@@ -5,7 +5,7 @@ use mathlib.Core.List.{[]}
 use Rattle.pack.specs.Packs.{noPacks}
 use Rattle.pack.specs.Read.{readAll, readBack}
 use Rattle.record.specs.declared.Chain.{Chain}
-use Rattle.chain.specs.Fresh.{lowLines, blankStates, freshSlot, endOf, fitOf}
+use Rattle.fresh.specs.Fresh.{lowLines, blankStates, freshSlot, endOf, fitOf}
 use Rattle.soundness.specs.Sound.{placedOf, driveB, soundB}
 
 -- every field 0

@@ -10,8 +10,8 @@ use Rattle.counts.specs.Choice.{if_then_else_}
 use Rattle.counts.proofs.Choice.{by-test}
 use Rattle.drive.specs.declared.Outcome.{Outcome}
 use Rattle.drive.specs.declared.Outcome.the-variants as outcome
-use Rattle.drive.specs.Time as time
-use Rattle.drive.specs.Heads.{leftOf}
+use Rattle.rules.specs.Time as time
+use Rattle.rules.specs.Left.{leftOf}
 use Rattle.event.specs.declared.Answer.{Answer}
 use Rattle.event.specs.declared.Answer.the-variants.{Taken, Unselected}
 use Rattle.event.specs.declared.Event.{Event}
@@ -25,7 +25,7 @@ use Rattle.decision.specs.declared.Seen.{Seen}
 use Rattle.record.specs.Record.{lookOf}
 use Rattle.decision.specs.Decision.{outcomeAnswer}
 use Rattle.decision.specs.Deeds.{saidOf, fileAfter}
-use Rattle.kinds.specs.Select.{eitherAnswer}
+use Rattle.select.specs.Select.{eitherAnswer}
 use Rattle.kinds.specs.Passing.{passOf}
 use Rattle.record.specs.Apply.{changedOf, applied}
 use Rattle.chain.specs.Levels.{ruleOf}
@@ -73,7 +73,7 @@ module _ (c : Chain) (file : List ℕ) where
     enters = λ slot off f m. ruled (enteredOf c slot .outcome);
     leaves = λ slot on n m. either (leftOf (d .state) .outcome) Unselected alone;
     swaps = λ slot on f m. either (leftOf (d .state) .outcome) (outcomeAnswer (enteredOf c slot .outcome)) (low (enteredOf c slot .outcome));
-    passes = λ us. timed (d .on) (time.passOf us (d .state) .outcome);
+    passes = λ us. timed (d .selected) (time.passOf us (d .state) .outcome);
     past = λ position byte on h. (refl, refl);
     writes = λ position byte on t w h. absurd (omega arith);
     reads = λ position byte on t r w h. absurd (omega arith);

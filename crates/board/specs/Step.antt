@@ -10,11 +10,19 @@ use Rattle.decision.specs.Deeds.{saidOf, fileAfter}
 use Rattle.record.specs.declared.Chain.{Chain}
 use Rattle.record.specs.Apply.{applied}
 use Rattle.judge.specs.Judge.{judgedOf}
+use Rattle.board.specs.declared.Performed.{Performed}
 use Rattle.board.specs.declared.Stepped.{Stepped}
 
 pub record Obeyed (deed : Deed) (file : List ℕ) (r : Answer) (after : List ℕ) : Type 0 where
   pub is : r ≡ saidOf deed file
   pub holds : after ≡ fileAfter deed file
+
+-- a decision done on the file, the record still to change
+abbrev pub doneOn : List ℕ → Decision → Performed
+doneOn file d = record { decision = d; answer = saidOf (d .deed) file }
+
+unfoldable pub performOf : ℕ → ℕ → ℕ → Chain → List ℕ → Performed
+performOf kind a b c file = doneOn file (judgedOf c (length file) kind a b)
 
 -- a decision carried out
 abbrev pub performed : Chain → List ℕ → Decision → Stepped

@@ -1,6 +1,5 @@
 // An event in, an answer out, over the lent file. Nothing is expected of the caller: every record, file and number is taken or refused.
-pub mod call;
-
+use decision::Decision;
 use decision::Deed;
 use event::Answer;
 use record::Chain;
@@ -8,7 +7,13 @@ use record::apply;
 ghost use mathlib.Core.Path.{_≡_};
 ghost use lib.ListN.{length};
 ghost use Rattle.decision.specs.Deeds.{Fits};
-ghost use Rattle.board.specs.Step.{Obeyed, stepOf, stepFile};
+ghost use Rattle.board.specs.Step.{Obeyed, performOf, stepOf, stepFile};
+
+// What is decided and done on the file; the record is still to change.
+pub struct Performed {
+    pub decision: Decision,
+    pub answer: Answer,
+}
 
 pub struct Stepped {
     pub chain: Chain,
@@ -30,13 +35,23 @@ fn obey(file: &mut [u8], deed: Deed) -> Answer
     }
 }
 
+// An event, given by its three numbers, judged and done on the file.
+pub fn perform(c: Chain, file: &mut [u8], kind: u32, a: u32, b: u32) -> Performed
+    ensures { λ r. ⌜ (r ≡ performOf kind a b c (now (file .entry))) × (now (file .exit) ≡ stepFile kind a b c (now (file .entry))) ⌝ }
+{
+    let decision = judge::judge(c, file.len(), kind, a, b);
+    let deed = decision.deed;
+    let answer = obey(file, deed);
+    Performed { decision, answer }
+}
+
 // What an event, given by its three numbers, does to the chain and to its file.
 pub fn step(c: Chain, file: &mut [u8], kind: u32, a: u32, b: u32) -> Stepped
     ensures { λ r. ⌜ (r ≡ stepOf kind a b c (now (file .entry))) × (now (file .exit) ≡ stepFile kind a b c (now (file .entry))) ⌝ }
 {
-    let d = judge::judge(c, file.len(), kind, a, b);
-    let deed = d.deed;
-    let answer = obey(file, deed);
+    let performed = perform(c, file, kind, a, b);
+    let d = performed.decision;
+    let answer = performed.answer;
     let chain = apply::apply(c, d);
     Stepped { chain, answer }
 }

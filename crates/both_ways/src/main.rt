@@ -5,9 +5,14 @@ mod same;
 mod ways;
 
 use bench::Bench;
+use bench::CONDITION;
+use bench::HEADS;
+use bench::PASS;
 use bench::ROOM;
+use bench::SELECT;
 use bench::drives;
 use bench::plain;
+use bench::plain::Answered;
 use drive::Body;
 use drive::Latched;
 use drive::State;
@@ -53,7 +58,7 @@ fn long_wait(b: Bench, file: &mut [u8; ROOM]) -> Bench {
     let mut after = b;
     let mut left: u32 = 460;
     while left > 0 {
-        after = event(after, file, 6, 65_535, 0);
+        after = event(after, file, PASS, 65_535, 0);
         left -= 1;
     }
     after
@@ -67,12 +72,16 @@ fn numbers(kind: u32, a: u32, b: u32) -> Three {
 fn some_event(r: u64) -> Three {
     let more = r / 16;
     match r % 16 {
-        0 => numbers(8, below(more, 7) as u32 + 1, below(more / 16, 3) as u32 + 1),
-        1 => numbers(1, below(more, 4) as u32, 0),
-        2 => numbers(6, below(more, 500) as u32, 0),
-        3 => numbers(6, 10_000, 0),
-        4 | 5 | 6 | 7 | 8 => numbers(6, 65_535, 0),
-        _ => numbers(6, 0, 0),
+        0 => numbers(
+            CONDITION,
+            below(more, 7) as u32 + 1,
+            below(more / 16, 3) as u32 + 1,
+        ),
+        1 => numbers(HEADS, below(more, 4) as u32, 0),
+        2 => numbers(PASS, below(more, 500) as u32, 0),
+        3 => numbers(PASS, 10_000, 0),
+        4 | 5 | 6 | 7 | 8 => numbers(PASS, 65_535, 0),
+        _ => numbers(PASS, 0, 0),
     }
 }
 
@@ -151,8 +160,10 @@ fn counted(t: Totals, before: State, bit: u16, response: u32, good: bool) -> Tot
 }
 
 // The same record, the same response, and 5 on the cable exactly where a bit is latched.
-fn agree(a: Sent, b: Sent, bit: u16) -> bool {
-    same::same(a.bench.chain, b.bench.chain) & (a.response == b.response) & (a.fault == (bit != 0))
+fn agree(slow: Sent, quick: Answered, bit: u16) -> bool {
+    same::same(slow.bench.chain, quick.chain)
+        & (slow.bits == quick.response)
+        & ((slow.answer == 5) == (bit != 0))
 }
 
 fn both(r: Run, file: &mut [u8; ROOM], word: u32) -> Run {
@@ -162,7 +173,7 @@ fn both(r: Run, file: &mut [u8; ROOM], word: u32) -> Run {
     let slow = ways::by_bits(r.bench, file, word, seed);
     let quick = ways::at_once(r.bench, file, word, seed);
     let good = agree(slow, quick, bit);
-    let totals = counted(r.totals, before, bit, slow.response, good);
+    let totals = counted(r.totals, before, bit, slow.bits, good);
     let bench = slow.bench;
     Run {
         bench,
@@ -188,7 +199,7 @@ fn turn(r: Run, file: &mut [u8; ROOM]) -> Run {
     let c = next(b);
     let d = next(c);
     let later = between(r.bench, file, a / 8);
-    let bench = event(later, file, 0, some_slot(b / 8), 0);
+    let bench = event(later, file, SELECT, some_slot(b / 8), 0);
     let totals = r.totals;
     let now = Run {
         bench,

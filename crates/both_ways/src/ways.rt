@@ -1,9 +1,15 @@
 // A word sent both ways: by its bits with waits between the edges, and handed to the plain word rules when the same waits have passed.
 use crate::random;
+use bench::ACKNOWLEDGE;
 use bench::Bench;
+use bench::DATA;
 use bench::Met;
+use bench::PASS;
+use bench::REQUEST;
 use bench::ROOM;
+use bench::STATUS;
 use bench::plain;
+use bench::plain::Answered;
 use counts::Micros;
 use drive::State;
 use drive::status;
@@ -11,11 +17,11 @@ use handshake::Transfer;
 use record::Chain;
 use record::slots;
 
-// response: seventeen bits, 0 where there is none. fault: whether the cable answered 5 to the word.
+// What came of a word: the bits that the drive put out, 0 where there is no response, and what the cable answered at its end.
 pub struct Sent {
     pub bench: Bench,
-    pub response: u32,
-    pub fault: bool,
+    pub bits: u32,
+    pub answer: u8,
 }
 
 pub fn selected(c: Chain) -> State {
@@ -27,7 +33,7 @@ fn pass(b: Bench, file: &mut [u8; ROOM], us: Micros) -> Bench {
     if us.0 == 0 {
         return b;
     }
-    let m = bench::meet(b, file, 6, us.0, 0);
+    let m = bench::meet(b, file, PASS, us.0, 0);
     m.bench
 }
 
@@ -40,21 +46,15 @@ fn waited(b: Bench, file: &mut [u8; ROOM], seed: u64, i: u32) -> Bench {
 
 // A level put on the data line, and request's rise.
 fn risen(b: Bench, file: &mut [u8; ROOM], level: u32) -> Met {
-    let m = bench::meet(b, file, 4, level, 0);
-    bench::meet(m.bench, file, 5, 1, 0)
+    let m = bench::meet(b, file, DATA, level, 0);
+    bench::meet(m.bench, file, REQUEST, 1, 0)
 }
 
-// The bits that the drive put out so far, and what request's last fall answered.
-struct Pulsed {
-    bench: Bench,
-    bits: u32,
-    answer: u8,
-}
-
-fn fallen(b: Bench, file: &mut [u8; ROOM], bits: u32) -> Pulsed {
-    let m = bench::meet(b, file, 5, 0, 0);
+// Request's fall, with the bits that came so far.
+fn fallen(b: Bench, file: &mut [u8; ROOM], bits: u32) -> Sent {
+    let m = bench::meet(b, file, REQUEST, 0, 0);
     let bench = m.bench;
-    Pulsed {
+    Sent {
         bench,
         bits,
         answer: m.told.answer,
@@ -62,16 +62,16 @@ fn fallen(b: Bench, file: &mut [u8; ROOM], bits: u32) -> Pulsed {
 }
 
 // The wait before request's rise, and the one before its fall.
-fn pulse(p: Pulsed, file: &mut [u8; ROOM], level: u32, seed: u64, k: u32) -> Pulsed {
+fn pulse(p: Sent, file: &mut [u8; ROOM], level: u32, seed: u64, k: u32) -> Sent {
     let low = waited(p.bench, file, seed, k);
     let up = risen(low, file, level);
     let high = waited(up.bench, file, seed, std::num::wrapping_add_u32(k, 1));
-    let bit = (up.told.sum / 8 % 2) as u32;
+    let bit = (up.told.sum / STATUS % 2) as u32;
     fallen(high, file, p.bits % 65_536 * 2 + bit)
 }
 
 // Some pulses, with a word's bits behind its first on the data line.
-fn pulses(p: Pulsed, file: &mut [u8; ROOM], word: u32, seed: u64, from: u32, count: u32) -> Pulsed {
+fn pulses(p: Sent, file: &mut [u8; ROOM], word: u32, seed: u64, from: u32, count: u32) -> Sent {
     let mut q = p;
     let mut n = word;
     let mut k = from;
@@ -85,43 +85,39 @@ fn pulses(p: Pulsed, file: &mut [u8; ROOM], word: u32, seed: u64, from: u32, cou
     q
 }
 
-// From the first bit's rise on. A response is fetched where one is open after the seventeenth fall.
+// A response is fetched where one is open after the seventeenth fall, whose answer counts.
+fn fetched(whole: Sent, file: &mut [u8; ROOM], seed: u64) -> Sent {
+    let s = selected(whole.bench.chain);
+    if s.transfer.way != Transfer::RESPONDING {
+        let mut none = whole;
+        none.bits = 0;
+        return none;
+    }
+    let mut told = pulses(whole, file, 0, seed, 33, 17);
+    told.answer = whole.answer;
+    told
+}
+
+// From the first bit's rise on.
 fn acknowledged(b: Bench, file: &mut [u8; ROOM], word: u32, seed: u64) -> Sent {
     let high = waited(b, file, seed, 0);
     let first = fallen(high, file, 0);
-    let whole = pulses(first, file, word, seed, 1, 16);
-    let s = selected(whole.bench.chain);
-    let fault = whole.answer == 5;
-    if s.transfer.way != Transfer::RESPONDING {
-        let bench = whole.bench;
-        return Sent {
-            bench,
-            response: 0,
-            fault,
-        };
-    }
-    let told = pulses(whole, file, 0, seed, 33, 17);
-    let bench = told.bench;
-    Sent {
-        bench,
-        response: told.bits,
-        fault,
-    }
+    fetched(pulses(first, file, word, seed, 1, 16), file, seed)
 }
 
-// By bits. Where acknowledge doesn't rise, the host lowers request at once and ends.
+// Where acknowledge doesn't rise, the host lowers request at once and ends; the rise's answer counts.
+fn refused(up: Met, file: &mut [u8; ROOM]) -> Sent {
+    let mut down = fallen(up.bench, file, 0);
+    down.answer = up.told.answer;
+    down
+}
+
 pub fn by_bits(b: Bench, file: &mut [u8; ROOM], word: u32, seed: u64) -> Sent {
     let up = risen(b, file, word / 65_536 % 2);
-    if up.told.sum / 4 % 2 == 1 {
+    if up.told.sum / ACKNOWLEDGE % 2 == 1 {
         return acknowledged(up.bench, file, word, seed);
     }
-    let down = fallen(up.bench, file, 0);
-    let bench = down.bench;
-    Sent {
-        bench,
-        response: 0,
-        fault: up.told.answer == 5,
-    }
+    refused(up, file)
 }
 
 fn all_waited(b: Bench, file: &mut [u8; ROOM], seed: u64, count: u32) -> Bench {
@@ -135,29 +131,19 @@ fn all_waited(b: Bench, file: &mut [u8; ROOM], seed: u64, count: u32) -> Bench {
 }
 
 // How many waits a word has: between its 34 edges, and the response's where there is one.
-fn waits_of(complete: bool, response: u32) -> u32 {
-    if !complete {
+fn waits_of(c: Chain, word: u32) -> u32 {
+    if !status::complete(selected(c)) {
         return 0;
     }
-    if response == 0 {
+    let a = plain::plain(c, word);
+    if a.response == 0 {
         return 33;
     }
     67
 }
 
 // At once, when the waits have passed.
-pub fn at_once(b: Bench, file: &mut [u8; ROOM], word: u32, seed: u64) -> Sent {
-    let s = selected(b.chain);
-    let first = plain::plain(b.chain, word);
-    let count = waits_of(status::complete(s), first.response);
-    let after = all_waited(b, file, seed, count);
-    let a = plain::plain(after.chain, word);
-    let chain = a.chain;
-    let lent = b.lent;
-    let bench = Bench { chain, lent };
-    Sent {
-        bench,
-        response: a.response,
-        fault: false,
-    }
+pub fn at_once(b: Bench, file: &mut [u8; ROOM], word: u32, seed: u64) -> Answered {
+    let after = all_waited(b, file, seed, waits_of(b.chain, word));
+    plain::plain(after.chain, word)
 }

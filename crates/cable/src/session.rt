@@ -23,7 +23,7 @@ use bench::tally::Tally;
 use bench::tally::one_more;
 use bench::tally::say;
 use bench::tally::say_number;
-use chain::fresh;
+use chain::shown;
 use script::fields;
 use script::words;
 use script::words::Number;
@@ -159,10 +159,19 @@ fn answers(line: &[u8], response: u32, sum: u8) -> bool {
 fn plainly(p: Play, line: &[u8], word: u32) -> Play {
     let a = plain::plain(p.bench.chain, word);
     let q = play::with_chain(p, a.chain);
-    if answers(line, a.response, fresh::line_sum(a.chain)) {
+    if answers(line, a.response, shown::line_sum(a.chain)) {
         return q;
     }
     play::found(q, amiss(line, b"not so by the plain word rules"))
+}
+
+// A word on the cable, or a part of it, or its response.
+fn sent(p: Play, file: &mut [u8; ROOM], what: u8, a: u32, b: u32) -> Play {
+    match what {
+        SEND => play::send(p, file, with_parity(a, b), 17),
+        PART => play::send(p, file, with_parity(b, 0), a % 17),
+        _ => play::take(p, file, with_parity(a, b)),
+    }
 }
 
 // A line that plays a word.
@@ -172,12 +181,10 @@ fn word(p: Play, file: &mut [u8; ROOM], line: &[u8], what: u8) -> Play {
     if !(a.ok & b.ok) {
         return play::found(p, unread(line));
     }
-    match what {
-        SEND => held_to(line, play::send(p, file, with_parity(a.n, b.n), 17)),
-        PART => held_to(line, play::send(p, file, with_parity(b.n, 0), a.n % 17)),
-        TAKE => held_to(line, play::take(p, file, with_parity(a.n, b.n))),
-        _ => plainly(p, line, with_parity(a.n, b.n)),
+    if what == PLAIN {
+        return plainly(p, line, with_parity(a.n, b.n));
     }
+    held_to(line, sent(p, file, what, a.n, b.n))
 }
 
 fn changed(p: Play, line: &[u8], slot: u32, v: u32) -> Play {

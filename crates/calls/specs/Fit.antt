@@ -5,7 +5,7 @@ use Rattle.pack.specs.declared.read.Answer.{Answer}
 use Rattle.pack.specs.declared.read.Answer.the-variants.{Whole, Refused}
 use Rattle.pack.specs.Refusal.{readNumber, readPlace}
 use Rattle.record.specs.declared.Chain.{Chain}
-use Rattle.chain.specs.Fresh as fresh
+use Rattle.fresh.specs.Fresh as fresh
 use Rattle.calls.specs.declared.Coded.{Coded}
 
 -- a refused file leaves the record as it was

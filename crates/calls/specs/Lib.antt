@@ -1,4 +1,2 @@
 pub mod Fit
-pub mod Words
 pub mod Packs
-pub mod Marks

@@ -1,6 +1,5 @@
 // A chain fitted from a pack file; a refused file leaves the record as it was.
 use crate::Coded;
-use chain::fresh;
 use pack::read::Answer;
 use record::Chain;
 ghost use mathlib.Core.Path.{_≡_};
@@ -16,7 +15,7 @@ fn fitted_or(answer: Answer, found: Chain, c: Chain) -> Chain
 }
 
 // A refusal's number, and its place in the high half; of a file that is taken, n in the second byte.
-pub fn read_code(answer: Answer, n: u8) -> u64
+pub(crate) fn read_code(answer: Answer, n: u8) -> u64
     ensures { λ r. ⌜ r ≡ readCode answer n ⌝ }
 {
     match answer {

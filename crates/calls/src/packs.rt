@@ -1,13 +1,11 @@
 // The status of a pack file, and a pack laid, in numbers.
 use crate::fit;
+use laying::Laid;
 use pack::Pack;
-use pack::lay;
-use pack::lay::Laid;
 use pack::read;
-use trailer::Profile;
+use profile::Profile;
 ghost use mathlib.Core.Path.{_≡_};
-ghost use Rattle.pack.specs.Refusal.{laidNumber};
-ghost use Rattle.pack.specs.Lay.{laidAnswer, laidBytes};
+ghost use Rattle.laying.specs.Lay.{laidNumber, laidAnswer, laidBytes};
 ghost use Rattle.calls.specs.Packs.{OneIs, countOf, packsOf, packOf};
 ghost use lib.ListN.{length};
 
@@ -63,5 +61,5 @@ fn laid_number(laid: Laid) -> u32
 pub fn laid(p: Profile, buffer: &mut [u8]) -> u32
     ensures { λ r. ⌜ (r ≡ laidNumber (laidAnswer p (length (now (buffer .entry))))) × (now (buffer .exit) ≡ laidBytes p (now (buffer .entry))) ⌝ }
 {
-    laid_number(lay::lay(p, buffer))
+    laid_number(laying::lay(p, buffer))
 }

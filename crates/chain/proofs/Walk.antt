@@ -6,12 +6,12 @@ use borrow.Author.Tests.{eqb-true, leb-false, not-true, not-false}
 use lib.Dec.{leb, eqb}
 use Rattle.counts.specs.declared.Micros.{Micros}
 use Rattle.counts.specs.declared.Position.{Position}
-use Rattle.counts.specs.Choice.{if_then_else_}
 use Rattle.counts.proofs.Choice.{by-test}
 use Rattle.drive.specs.declared.Ruled.{Ruled}
 use Rattle.drive.specs.State.{stateOf}
 use Rattle.drive.specs.Faults as faults
-use Rattle.drive.specs.Heads.{metOf, leftOf}
+use Rattle.rules.specs.Heads.{metOf}
+use Rattle.rules.specs.Left.{leftOf}
 use Rattle.event.specs.declared.Answer.the-variants.{Taken, Unselected, Inhibited, Inapplicable, PastTrack}
 use Rattle.event.specs.declared.Event.{Event}
 use Rattle.event.specs.declared.Event.the-variants.{Select, Heads, WriteGate, ReadGate, Data, Request, Pass, Cell, Condition}
@@ -22,15 +22,14 @@ use Rattle.decision.specs.declared.Deed.the-variants.{Say, Read, Write}
 use Rattle.decision.specs.declared.Decision.{Decision}
 use Rattle.decision.specs.declared.Seen.{Seen}
 use Rattle.record.specs.Record.{slotPack, slotState, lookOf}
-use Rattle.decision.specs.Decision.{fittedB}
-use Rattle.decision.specs.Decision.{sayOf, heardOf, ruledOf}
-use Rattle.kinds.specs.Signals.{with-select, with-heads, with-writegate, with-readgate, with-command, with-request, writeGateOf, readGateOf, requestOf, headsOf}
-use Rattle.kinds.specs.Select.{leftAlone, bothOf, movedOf}
-use Rattle.chain.specs.Decide.{selectOf}
+use Rattle.decision.specs.Decision.{fittedB, sayOf, heardOf, ruledOf}
+use Rattle.unit.specs.Lines.{with-select, with-heads, with-writegate, with-readgate, with-command, with-request}
+use Rattle.signals.specs.Signals.{signalOf}
+use Rattle.select.specs.Select.{leftAlone, bothOf, movedOf}
 use Rattle.kinds.specs.Passing.{passOf}
 use Rattle.kinds.specs.Cell.{cellPlace, touching, cellOf}
 use Rattle.kinds.specs.Condition.{fixedChange, conditionAt}
-use Rattle.chain.specs.Decide.{conditionOf, decideOf}
+use Rattle.chain.specs.Decide.{selectOf, conditionOf, decideOf}
 use Rattle.chain.specs.Levels.{linesAfter, movesB, ruleOf, askedB}
 
 -- kinds 0 to 5
@@ -58,29 +57,29 @@ module _ (c : Chain) (P : Event → Decision → Type 0) where
 
   pub record Cases : Type 0 where
     -- a line set to the level it has, and the data line: nothing is met
-    pub still : (e : Event) → lineB e ≡ true → d .on ≡ true → movesB e l ≡ false → linesAfter e l ≡ l → P e (sayOf l Taken)
-    pub level : (v : ℕ) → d .on ≡ true → P (Data v) (sayOf (with-command v l) Taken)
+    pub still : (e : Event) → lineB e ≡ true → d .selected ≡ true → movesB e l ≡ false → linesAfter e l ≡ l → P e (sayOf l Taken)
+    pub level : (v : ℕ) → d .selected ≡ true → P (Data v) (sayOf (with-command v l) Taken)
     -- no fitted drive, before or after
-    pub alone : (e : Event) → askedB e ≡ true → d .on ≡ false → fittedB (slotPack (c .packs) (linesAfter e l .select)) ≡ false
+    pub alone : (e : Event) → askedB e ≡ true → d .selected ≡ false → fittedB (slotPack (c .packs) (linesAfter e l .select)) ≡ false
         → P e (sayOf (linesAfter e l) Unselected)
     -- the selected drive meets a rule
-    pub met : (e : Event) → d .on ≡ true → movesB e l ≡ true → linesAfter e l .select ≡ l .select → P e (ruledOf (linesAfter e l) (ruleOf d l e))
+    pub met : (e : Event) → d .selected ≡ true → movesB e l ≡ true → linesAfter e l .select ≡ l .select → P e (ruledOf (linesAfter e l) (ruleOf d l e))
     -- select
-    pub enters : (slot : ℕ) → d .on ≡ false → fittedB (slotPack (c .packs) slot) ≡ true → movesB (Select slot) l ≡ true
+    pub enters : (slot : ℕ) → d .selected ≡ false → fittedB (slotPack (c .packs) slot) ≡ true → movesB (Select slot) l ≡ true
         → P (Select slot) (ruledOf (with-select slot l) (enteredOf c slot))
-    pub leaves : (slot : ℕ) → d .on ≡ true → fittedB (slotPack (c .packs) slot) ≡ false → movesB (Select slot) l ≡ true
+    pub leaves : (slot : ℕ) → d .selected ≡ true → fittedB (slotPack (c .packs) slot) ≡ false → movesB (Select slot) l ≡ true
         → P (Select slot) (leftAlone (l .select) (leftOf (d .state)) (with-select slot l))
-    pub swaps : (slot : ℕ) → d .on ≡ true → fittedB (slotPack (c .packs) slot) ≡ true → movesB (Select slot) l ≡ true
+    pub swaps : (slot : ℕ) → d .selected ≡ true → fittedB (slotPack (c .packs) slot) ≡ true → movesB (Select slot) l ≡ true
         → P (Select slot) (bothOf (l .select) (leftOf (d .state)) (enteredOf c slot) (with-select slot l))
     -- time
     pub passes : (us : Micros) → P (Pass us) (passOf d l us)
     -- cells
-    pub past : (position : Position) (byte : ℕ) → d .on ≡ true → P (Cell position byte) (sayOf l PastTrack)
-    pub writes : (position : Position) (byte : ℕ) → d .on ≡ true → position .0 < d .profile .shape .track .0 → d .state .body .writing ≡ 1
+    pub past : (position : Position) (byte : ℕ) → d .selected ≡ true → P (Cell position byte) (sayOf l PastTrack)
+    pub writes : (position : Position) (byte : ℕ) → d .selected ≡ true → position .0 < d .profile .shape .track .0 → d .state .body .writing ≡ 1
         → P (Cell position byte) (touching l (Write (cellPlace d position) byte))
-    pub reads : (position : Position) (byte : ℕ) → d .on ≡ true → position .0 < d .profile .shape .track .0 → d .state .body .reading ≡ 1
+    pub reads : (position : Position) (byte : ℕ) → d .selected ≡ true → position .0 < d .profile .shape .track .0 → d .state .body .reading ≡ 1
         → eqb (d .state .body .writing) 1 ≡ false → P (Cell position byte) (touching l (Read (cellPlace d position)))
-    pub idle : (position : Position) (byte : ℕ) → d .on ≡ true → eqb (d .state .body .writing) 1 ≡ false → eqb (d .state .body .reading) 1 ≡ false
+    pub idle : (position : Position) (byte : ℕ) → d .selected ≡ true → eqb (d .state .body .writing) 1 ≡ false → eqb (d .state .body .reading) 1 ≡ false
         → P (Cell position byte) (sayOf l Inhibited)
     -- conditions
     pub inapplicable : (slot which : ℕ) → P (Condition slot which) (sayOf l Inapplicable)
@@ -93,35 +92,28 @@ module _ (c : Chain) (P : Event → Decision → Type 0) where
         })
 
   module _ (k : Cases) where
-    after-on : (e : Event) → linesAfter e l .select ≡ l .select → d .on ≡ false → fittedB (slotPack (c .packs) (linesAfter e l .select)) ≡ false
+    after-on : (e : Event) → linesAfter e l .select ≡ l .select → d .selected ≡ false → fittedB (slotPack (c .packs) (linesAfter e l .select)) ≡ false
     unfolding lookOf
     after-on e q h = rw q h
 
     -- the line has that level
-    same : (e : Event) → lineB e ≡ true → askedB e ≡ true → movesB e l ≡ false → linesAfter e l ≡ l → P e (heardOf l (d .on))
+    same : (e : Event) → lineB e ≡ true → askedB e ≡ true → movesB e l ≡ false → linesAfter e l ≡ l → P e (heardOf l (d .selected))
     unfolding heardOf
     same e b a m q =
-        by-test (P e) (d .on) _ _ (λ on. k .still e b on m q)
+        by-test (P e) (d .selected) _ _ (λ on. k .still e b on m q)
         (λ off. rw q at (k .alone e a off (after-on e (ap (λ (m : Lines). m .select) q) off)))
 
-    unheard : (e : Event) → askedB e ≡ true → d .on ≡ false → linesAfter e l .select ≡ l .select → P e (heardOf (linesAfter e l) false)
+    unheard : (e : Event) → askedB e ≡ true → d .selected ≡ false → linesAfter e l .select ≡ l .select → P e (heardOf (linesAfter e l) false)
     unfolding heardOf
     unheard e a off q = k .alone e a off (after-on e q off)
 
-    -- either of two rules
-    either : (e : Event) (m : Lines) (t : Bool) (x y : Ruled) → P e (ruledOf m (if t then x else y)) → P e (if t then ruledOf m x else ruledOf m y)
-    either e m true x y p = p
-    either e m false x y p = p
-
-    -- kinds 2, 3 and 5
-    signal : (e : Event) (level : ℕ) (t : Bool) (x y : Ruled) → lineB e ≡ true → askedB e ≡ true → linesAfter e l .select ≡ l .select → movesB e l ≡ not t
-        → (t ≡ true → linesAfter e l ≡ l) → ruleOf d l e ≡ (if eqb level 1 then x else y)
-        → P e (if t then heardOf l (d .on) else if not (d .on) then heardOf (linesAfter e l) false
-        else if eqb level 1 then ruledOf (linesAfter e l) x else ruledOf (linesAfter e l) y)
-    signal e level t x y b a q m h r =
+    -- kinds 1, 2, 3 and 5
+    signal : (e : Event) (t : Bool) → lineB e ≡ true → askedB e ≡ true → linesAfter e l .select ≡ l .select → movesB e l ≡ not t
+        → (t ≡ true → linesAfter e l ≡ l) → P e (signalOf d l (linesAfter e l) t (ruleOf d l e))
+    unfolding signalOf
+    signal e t b a q m h =
         by-test (P e) t _ _ (λ s. same e b a (rw (m, s)) (h s))
-        (λ n. by-test (P e) (not (d .on)) _ _ (λ off. unheard e a (not-true _ off) q)
-        (λ on. either e (linesAfter e l) (eqb level 1) x y (rw r at (k .met e (not-false _ on) (rw (m, n)) q))))
+        (λ n. by-test (P e) (not (d .selected)) _ _ (λ off. unheard e a (not-true _ off) q) (λ on. k .met e (not-false _ on) (rw (m, n)) q))
 
     -- the select code has changed
     moved : (slot : ℕ) → movesB (Select slot) l ≡ true → P (Select slot) (movedOf d l (with-select slot l) (slotPack (c .packs) slot) (slotState (c .states) slot))
@@ -129,33 +121,28 @@ module _ (c : Chain) (P : Event → Decision → Type 0) where
     moved slot m =
         let p = slotPack (c .packs) slot in
         by-test (P (Select slot)) (fittedB p) _ _
-        (λ f. by-test (P (Select slot)) (d .on) _ _ (λ on. k .swaps slot on f m) (λ off. k .enters slot off f m))
-        (λ f. by-test (P (Select slot)) (d .on) _ _ (λ on. k .leaves slot on f m) (λ off. k .alone (Select slot) refl off f))
+        (λ f. by-test (P (Select slot)) (d .selected) _ _ (λ on. k .swaps slot on f m) (λ off. k .enters slot off f m))
+        (λ f. by-test (P (Select slot)) (d .selected) _ _ (λ on. k .leaves slot on f m) (λ off. k .alone (Select slot) refl off f))
 
     pub walk : (e : Event) → P e (decideOf c e)
-    unfolding decideOf selectOf movedOf headsOf writeGateOf readGateOf requestOf cellOf conditionOf conditionAt heardOf
+    unfolding decideOf selectOf cellOf conditionOf conditionAt heardOf
     walk (Select slot) =
         by-test (P (Select slot)) (eqb (l .select) slot) _ _
         (λ s. same (Select slot) refl refl (rw s) (ap (λ (x : ℕ). with-select x l) (sym (eqb-true (l .select) slot s))))
         (λ n. moved slot (rw n))
     walk (Heads h) =
-        by-test (P (Heads h)) (eqb (l .heads .0) (h .0)) _ _
-        (λ s. same (Heads h) refl refl (rw s) (ap (λ (x : ℕ). with-heads (record { 0 = x }) l) (sym (eqb-true (l .heads .0) (h .0) s))))
-        (λ n. by-test (P (Heads h)) (not (d .on)) _ _ (λ off. unheard (Heads h) refl (not-true _ off) refl)
-        (λ on. k .met (Heads h) (not-false _ on) (rw n) refl))
+        signal (Heads h) (eqb (l .heads .0) (h .0)) refl refl refl refl
+        (λ s. ap (λ (x : ℕ). with-heads (record { 0 = x }) l) (sym (eqb-true (l .heads .0) (h .0) s)))
     walk (WriteGate v) =
-        signal (WriteGate v) v (eqb (l .writegate) v) _ _ refl refl refl refl
-        (λ s. ap (λ (x : ℕ). with-writegate x l) (sym (eqb-true (l .writegate) v s))) refl
+        signal (WriteGate v) (eqb (l .writegate) v) refl refl refl refl (λ s. ap (λ (x : ℕ). with-writegate x l) (sym (eqb-true (l .writegate) v s)))
     walk (ReadGate v) =
-        signal (ReadGate v) v (eqb (l .readgate) v) _ _ refl refl refl refl
-        (λ s. ap (λ (x : ℕ). with-readgate x l) (sym (eqb-true (l .readgate) v s))) refl
-    walk (Data v) = by-test (P (Data v)) (d .on) _ _ (λ on. k .level v on) (λ off. unheard (Data v) refl off refl)
+        signal (ReadGate v) (eqb (l .readgate) v) refl refl refl refl (λ s. ap (λ (x : ℕ). with-readgate x l) (sym (eqb-true (l .readgate) v s)))
+    walk (Data v) = by-test (P (Data v)) (d .selected) _ _ (λ on. k .level v on) (λ off. unheard (Data v) refl off refl)
     walk (Request v) =
-        signal (Request v) v (eqb (l .request) v) _ _ refl refl refl refl
-        (λ s. ap (λ (x : ℕ). with-request x l) (sym (eqb-true (l .request) v s))) refl
+        signal (Request v) (eqb (l .request) v) refl refl refl refl (λ s. ap (λ (x : ℕ). with-request x l) (sym (eqb-true (l .request) v s)))
     walk (Pass us) = k .passes us
     walk (Cell position byte) =
-        by-test (P (Cell position byte)) (not (d .on)) _ _ (λ off. unheard (Cell position byte) refl (not-true _ off) refl)
+        by-test (P (Cell position byte)) (not (d .selected)) _ _ (λ off. unheard (Cell position byte) refl (not-true _ off) refl)
         (λ on. by-test (P (Cell position byte)) (leb (d .profile .shape .track .0) (position .0)) _ _ (λ p. k .past position byte (not-false _ on))
         (λ p. by-test (P (Cell position byte)) (eqb (d .state .body .writing) 1) _ _
         (λ w. k .writes position byte (not-false _ on) (leb-false _ _ p) (eqb-true _ _ w))

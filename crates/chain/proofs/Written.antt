@@ -3,11 +3,11 @@ use mathlib.Core.Path.{_≡_, refl}
 use mathlib.Core.Bool.{true, not}
 use mathlib.Core.Logic.{inl}
 use Prim.Native.Nat.{ℕ, _+_, _<_}
-use native.Mathlib.Omega.{arith}
 use Rattle.counts.specs.declared.Position.{Position}
-use Rattle.trailer.specs.Profile.{mediumOf}
+use Rattle.counts.proofs.Choice.{never}
+use Rattle.profile.specs.Profile.{mediumOf}
 use Rattle.drive.specs.Status.{attentionB}
-use Rattle.drive.proofs.Facts.{Usable, usable}
+use Rattle.gates.proofs.Facts.{Usable, usable}
 use Rattle.event.specs.declared.Answer.{Answer}
 use Rattle.event.specs.declared.Event.{Event}
 use Rattle.unit.proofs.Facts.{writes}
@@ -24,7 +24,7 @@ use Rattle.chain.proofs.Walk.{Cases, walk}
 
 -- the drive under which the byte at a place of the file is written
 pub record Written (c : Chain) (place : ℕ) : Type 0 where
-  pub selected : lookOf c .on ≡ true
+  pub selected : lookOf c .selected ≡ true
   pub usable : Usable (lookOf c .profile) (lookOf c .state)  -- ready, complete, position known, head present
   pub quiet : not (attentionB (lookOf c .state .body)) ≡ true
   pub offset : lookOf c .state .body .arm .offset ≡ 0
@@ -34,9 +34,6 @@ pub record Written (c : Chain) (place : ℕ) : Type 0 where
   pub is : place ≡ cellPlace (lookOf c) position
   pub inside : place < lookOf c .place .0 + mediumOf (lookOf c .profile .shape)
 
-never : _≡_ {A = ℕ} 0 1 → ⊥
-never z = omega arith
-
 module _ (c : Chain) (h : soundB c ≡ true) where
   abbrev Only : Event → Decision → Type 0
   Only e d = (place byte : ℕ) → d .deed ≡ Write place byte → Written c place
@@ -44,7 +41,7 @@ module _ (c : Chain) (h : soundB c ≡ true) where
   says : (a : Answer) (place byte : ℕ) → Say a ≡ Write place byte → Written c place
   says a place byte w = absurd (never (cc))
 
-  written : (position : Position) → lookOf c .on ≡ true → position .0 < lookOf c .profile .shape .track .0 → lookOf c .state .body .writing ≡ 1
+  written : (position : Position) → lookOf c .selected ≡ true → position .0 < lookOf c .profile .shape .track .0 → lookOf c .state .body .writing ≡ 1
       → Written c (cellPlace (lookOf c) position)
   written position on t w =
       let d = chosen c h on .drive in

@@ -7,8 +7,9 @@ use Rattle.event.specs.declared.Event.the-variants.{Select, Heads, WriteGate, R
 use Rattle.decision.specs.declared.Decision.{Decision}
 use Rattle.decision.specs.declared.Seen.{Seen}
 use Rattle.decision.specs.Decision.{heardOf}
-use Rattle.kinds.specs.Signals.{with-select, writeGateOf, readGateOf, dataOf, requestOf, headsOf}
-use Rattle.kinds.specs.Select.{movedOf}
+use Rattle.unit.specs.Lines.{with-select}
+use Rattle.signals.specs.Signals.{writeGateOf, readGateOf, dataOf, requestOf, headsOf}
+use Rattle.select.specs.Select.{movedOf}
 use Rattle.kinds.specs.Passing.{passOf}
 use Rattle.kinds.specs.Cell.{cellOf}
 use Rattle.kinds.specs.Condition.{conditionAt}
@@ -18,7 +19,7 @@ use Rattle.record.specs.Record.{slotPack, slotState, lookOf}
 -- kind 0
 unfoldable pub selectOf : Chain → Seen → ℕ → Decision
 selectOf c d slot =
-    if eqb (c .lines .select) slot then heardOf (c .lines) (d .on)
+    if eqb (c .lines .select) slot then heardOf (c .lines) (d .selected)
     else movedOf d (c .lines) (with-select slot (c .lines)) (slotPack (c .packs) slot) (slotState (c .states) slot)
 
 -- kind 8

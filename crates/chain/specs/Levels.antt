@@ -1,17 +1,15 @@
 -- The lines that an event sets: which it moves, how they are then, and what the selected drive meets.
 use mathlib.Core.Bool.{Bool, true, false, not}
 use lib.Dec.{eqb}
-use Rattle.counts.specs.Choice.{if_then_else_}
 use Rattle.drive.specs.declared.Ruled.{Ruled}
-use Rattle.drive.specs.Gates.{writeRises, readRises, writeFalls, readFalls}
-use Rattle.drive.specs.Heads.{metOf}
+use Rattle.rules.specs.Heads.{metOf}
 use Rattle.event.specs.declared.Event.{Event}
 use Rattle.event.specs.declared.Event.the-variants.{Select, Heads, WriteGate, ReadGate, Data, Request, Pass, Cell, Condition}
 use Rattle.unit.specs.declared.Lines.{Lines}
-use Rattle.unit.specs.Request.{requestRises, requestFalls}
 use Rattle.decision.specs.declared.Seen.{Seen}
 use Rattle.decision.specs.Decision.{doneOf}
-use Rattle.kinds.specs.Signals.{with-select, with-heads, with-writegate, with-readgate, with-command, with-request}
+use Rattle.signals.specs.Signals.{writeRule, readRule, requestRule}
+use Rattle.unit.specs.Lines.{with-select, with-heads, with-writegate, with-readgate, with-command, with-request}
 
 -- "line levels taken"
 abbrev pub linesAfter : Event → Lines → Lines
@@ -40,9 +38,9 @@ movesB (Condition slot which) l = false
 -- the rule that the selected drive meets when a line moves; the data line and the other kinds have none
 abbrev pub ruleOf : Seen → Lines → Event → Ruled
 ruleOf d l (Heads h) = metOf (d .profile) h (d .state)
-ruleOf d l (WriteGate level) = if eqb level 1 then writeRises (d .profile) (l .readgate) (d .state) else doneOf (writeFalls (d .state))
-ruleOf d l (ReadGate level) = if eqb level 1 then readRises (d .profile) (l .writegate) (d .state) else doneOf (readFalls (d .state))
-ruleOf d l (Request level) = if eqb level 1 then requestRises (d .profile) l (d .state) else requestFalls (d .profile) (d .state)
+ruleOf d l (WriteGate level) = writeRule d l level
+ruleOf d l (ReadGate level) = readRule d l level
+ruleOf d l (Request level) = requestRule d l level
 ruleOf d l (Data level) = doneOf (d .state)
 ruleOf d l (Select slot) = doneOf (d .state)
 ruleOf d l (Pass us) = doneOf (d .state)

@@ -1,3 +1,3 @@
 pub mod Decide
-pub mod Fresh
 pub mod Levels
+pub mod Shown

@@ -5,8 +5,6 @@ use event::Event;
 use kinds::cell;
 use kinds::condition;
 use kinds::passing;
-use kinds::select;
-use kinds::signals;
 use record::Chain;
 use record::slots;
 ghost use mathlib.Core.Path.{_≡_};
@@ -19,7 +17,7 @@ fn select(c: Chain, d: Seen, slot: u8) -> Decision
     let mut m = c.lines;
     m.select = slot;
     if l.select == slot {
-        return decision::heard(l, d.on);
+        return decision::heard(l, d.selected);
     }
     let packs = c.packs;
     let states = c.states;

@@ -1,3 +1,3 @@
-// What an event decides on a whole chain, and the fresh chain of a pack file.
+// What an event decides on a whole chain, and what the selected drive shows.
 pub mod decide;
-pub mod fresh;
+pub mod shown;

@@ -10,9 +10,9 @@ use Rattle.counts.specs.Choice.{if_then_else_}
 use Rattle.counts.proofs.Tests.{both}
 use Rattle.counts.proofs.Choice.{by-test}
 use Rattle.counts.proofs.First.{every-at}
-use Rattle.trailer.specs.declared.Profile.{Profile}
-use Rattle.trailer.specs.General.{soft}
-use Rattle.trailer.specs.Valid.{sectorOk}
+use Rattle.profile.specs.declared.Profile.{Profile}
+use Rattle.profile.specs.General.{soft}
+use Rattle.profile.specs.Valid.{sectorOk}
 use Rattle.drive.specs.declared.Body.{Body}
 use Rattle.acts.proofs.Keep.{Allowed}
 use Rattle.command.specs.declared.table.Row.{Row}

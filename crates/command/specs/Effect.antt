@@ -3,9 +3,9 @@ use Prim.Native.Nat.{ℕ, _%_, _^_}
 use mathlib.Core.Bool.{Bool, true, _&&_, _||_, not}
 use lib.Dec.{ltb, leb, eqb}
 use Rattle.counts.specs.Choice.{if_then_else_}
-use Rattle.counts.specs.Tests.{within}
-use Rattle.trailer.specs.declared.Profile.{Profile}
-use Rattle.trailer.specs.General.{offsetOption, motorOption, soft}
+use Rattle.profile.specs.declared.Profile.{Profile}
+use Rattle.profile.specs.General.{offsetOption, motorOption, soft}
+use Rattle.profile.specs.Valid.{hardSize}
 use Rattle.drive.specs.declared.Body.{Body}
 use Rattle.drive.specs.Status.{readyB}
 use Rattle.acts.specs.declared.Act.the-variants.{Seek, Recalibrate, Clear, Stop, Start, Offset, Diagnose, Sector}
@@ -25,7 +25,7 @@ optionB p option =
 
 -- "set bytes per sector": "162..4,095"
 abbrev pub sizeB : ℕ → Bool
-sizeB size = within 162 4095 size
+sizeB size = hardSize size
 
 unfoldable pub operandB : Profile → ℕ → ℕ → Bool
 operandB p act w =

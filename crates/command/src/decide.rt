@@ -8,7 +8,7 @@ use counts::Position;
 use drive::Body;
 use drive::Latched;
 use drive::status;
-use trailer::Profile;
+use profile::Profile;
 ghost use mathlib.Core.Path.{_≡_};
 ghost use Rattle.command.specs.Word.{wordOf, codeOf, modifierOf, numberOf, oddB};
 ghost use Rattle.command.specs.Effect.{optionB, sizeB, operandB, actOf, blockedB, orderOf, effectOf};
@@ -49,9 +49,9 @@ fn option_met(p: Profile, option: u8) -> bool
     ensures { λ r. ⌜ r ≡ optionB p option ⌝ }
 {
     match option {
-        Row::MOTOR => trailer::has_motor_option(p.general),
-        Row::OFFSETS => trailer::has_offset_option(p.general),
-        Row::HARD => !trailer::soft(p.general),
+        Row::MOTOR => profile::general::has_motor_option(p.general),
+        Row::OFFSETS => profile::general::has_offset_option(p.general),
+        Row::HARD => !profile::general::soft(p.general),
         _ => true,
     }
 }
@@ -60,7 +60,7 @@ fn option_met(p: Profile, option: u8) -> bool
 fn size_ok(size: u16) -> bool
     ensures { λ r. ⌜ r ≡ sizeB size ⌝ }
 {
-    (162 <= size) & (size <= 4095)
+    (Profile::SMALLEST_SECTOR <= size) & (size <= Profile::LARGEST_SECTOR)
 }
 
 fn operand_ok(p: Profile, act: u8, w: u16) -> bool

@@ -78,7 +78,7 @@ fn row_fits(r: Row, code: u8, modifier: u8) -> bool
 }
 
 // The number of the first row that fits, or the invalid row's.
-pub fn row_of(code: u8, modifier: u8) -> usize
+fn row_of(code: u8, modifier: u8) -> usize
     ensures { λ r. ⌜ r ≡ rowOf code modifier ⌝ }
 {
     let mut i = 0;
@@ -92,7 +92,7 @@ pub fn row_of(code: u8, modifier: u8) -> usize
     i
 }
 
-pub fn found(code: u8, modifier: u8) -> Row
+pub(crate) fn found(code: u8, modifier: u8) -> Row
     ensures { λ r. ⌜ r ≡ foundOf code modifier ⌝ }
 {
     let i = row_of(code, modifier);

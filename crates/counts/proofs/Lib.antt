@@ -1,5 +1,7 @@
 pub mod Choice
 pub mod Tests
+pub mod Slots
+pub mod Loops
 pub mod First
 pub mod Bytes
 pub mod Ones

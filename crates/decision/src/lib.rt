@@ -6,14 +6,14 @@ use drive::Ruled;
 use drive::State;
 use event::Answer;
 use pack::Pack;
-use trailer::Profile;
+use profile::Profile;
 use unit::Lines;
 ghost use mathlib.Core.Path.{_≡_};
 ghost use Rattle.decision.specs.Decision.{fittedB, outcomeAnswer, sayOf, heardOf, ruledOf, doneOf};
 
 // The selected drive, if a fitted one is.
 pub struct Seen {
-    pub on: bool,
+    pub selected: bool,
     pub place: Place,
     pub profile: Profile,
     pub state: State,

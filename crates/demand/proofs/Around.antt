@@ -5,9 +5,10 @@ use mathlib.Core.Bool.{Bool, true, false}
 use mathlib.Core.List.{List}
 use lib.Dec.{eqb}
 use lib.ListN.{length, getD, set}
-use lib.Seq.{getD-set-same}
+use lib.Seq.{getD-set-same, set-set}
 use borrow.Author.Tests.{eqb-true, eq-eqb}
 use Rattle.counts.specs.Slots.{mapWith}
+use Rattle.counts.proofs.Slots.{map-long, map-set, map-map}
 use Rattle.handshake.specs.Transfer.{statusLine}
 use Rattle.pack.specs.Packs.{noPack}
 use Rattle.drive.specs.declared.Body.{Body}
@@ -21,7 +22,8 @@ use Rattle.decision.specs.declared.Decision.{Decision}
 use Rattle.decision.specs.declared.Seen.{Seen}
 use Rattle.record.specs.Record.{slotState, lookOf}
 use Rattle.decision.specs.Decision.{heardOf}
-use Rattle.kinds.specs.Signals.{with-command, with-request, dataOf, requestOf}
+use Rattle.unit.specs.Lines.{with-command, with-request}
+use Rattle.signals.specs.Signals.{signalOf, dataOf, requestOf}
 use Rattle.decision.specs.Deeds.{saidOf, fileAfter}
 use Rattle.kinds.specs.Passing as kinds
 use Rattle.chain.specs.Decide.{decideOf}
@@ -32,7 +34,6 @@ use Rattle.exchange.specs.Unit.{Met, Wired, risen, fallen, passed, asked, after
 use Rattle.exchange.proofs.Like.{Alike}
 use Rattle.demand.specs.Drive.{drive}
 use Rattle.demand.specs.Decided.{Lent, decided}
-use Rattle.demand.proofs.Slots.{set-set, map-length, map-set, map-map}
 use Rattle.demand.proofs.Meets.{stood, rise-state, rise-answer, fall-state, fall-answer, pass-state, pass-answer, slot-pass-pass}
 use Rattle.demand.proofs.Here.{Here}
 
@@ -55,19 +56,19 @@ module _ (c : Chain) (file : List ℕ) where
 
   -- what is seen of it
   abbrev sight : State → Seen
-  sight s = record { on = true; place = lookOf c .place; profile = lookOf c .profile; state = s }
+  sight s = record { selected = true; place = lookOf c .place; profile = lookOf c .profile; state = s }
 
-  module _ (h : Here c (c .lines .select)) (on : lookOf c .on ≡ true) (writes : c .lines .writegate ≡ 0) (reads : c .lines .readgate ≡ 0) where
+  module _ (h : Here c (c .lines .select)) (on : lookOf c .selected ≡ true) (writes : c .lines .writegate ≡ 0) (reads : c .lines .readgate ≡ 0) where
     put-there : (us : ℕ) (s : State) → slotState (set (slots us) (c .lines .select - 1) s) (c .lines .select) ≡ s
     put-there us s =
-        let long : length (slots us) ≡ length (c .states) = map-length (passSlot (record { 0 = us })) (c .packs) (c .states) in
+        let long : length (slots us) ≡ length (c .states) = map-long (passSlot (record { 0 = us })) (c .packs) (c .states) in
         state-there (c .lines .select) _ (h .slot)
         ∙ getD-set-same (slots us) (c .lines .select - 1) s blankState (rw long (h .states))
 
     pub seen : (u : Wired Body) → lookOf (around u .chain) ≡ sight (stateOf (u .body) (u .transfer))
     unfolding lookOf
     seen u = λ i. record {
-      on = on i;
+      selected = on i;
       place = lookOf c .place;
       profile = lookOf c .profile;
       state = put-there (u .elapsed) (stateOf (u .body) (u .transfer)) i;
@@ -115,7 +116,7 @@ module _ (c : Chain) (file : List ℕ) where
       -- kind 5
       ask-after : (v : ℕ) (same high : Bool) → eqb (u .request) v ≡ same → eqb v 1 ≡ high
           → obeyed u (requestOf (sight state) lines v) ≡ around (after (drive (lookOf c .profile)) (ask v) u)
-      unfolding requestOf heardOf applied changedOf
+      unfolding signalOf heardOf applied changedOf
       ask-after v true high e f =
           let is : u .request ≡ v = eqb-true (u .request) v e in
           rw e (λ i. record { chain = chainOf (slots (u .elapsed)) state (u .command) (is i); file = file })
@@ -130,7 +131,7 @@ module _ (c : Chain) (file : List ℕ) where
 
       ask-answer : (v : ℕ) (same high : Bool) → eqb (u .request) v ≡ same → eqb v 1 ≡ high
           → said (requestOf (sight state) lines v) ≡ answer (drive (lookOf c .profile)) (ask v) u
-      unfolding requestOf heardOf
+      unfolding signalOf heardOf
       ask-answer v true high e f =
           let same : asked (drive (lookOf c .profile)) v u .answer ≡ 0 = rw e in
           rw e (sym same)

@@ -6,10 +6,12 @@ use mathlib.Core.Bool.{Bool, true, false}
 use mathlib.Core.List.{List, [], _∷_}
 use mathlib.Core.Option.{none, some}
 use lib.ListN.{length, getD, set}
+use lib.Seq.{set-getD}
 use borrow.Author.Tests.{leb-true, eq-eqb}
 use Rattle.counts.specs.Choice.{if_then_else_}
+use Rattle.counts.proofs.Slots.{map-at}
 use Rattle.counts.proofs.Tests.{each}
-use Rattle.trailer.specs.declared.Profile.{Profile}
+use Rattle.profile.specs.declared.Profile.{Profile}
 use Rattle.handshake.specs.Transfer.{wordBits, noTransfer}
 use Rattle.pack.specs.Packs.{noPack}
 use Rattle.drive.specs.declared.Body.{Body}
@@ -17,9 +19,10 @@ use Rattle.drive.specs.declared.State.{State}
 use Rattle.drive.specs.State.{blankState, stateOf}
 use Rattle.drive.specs.Faults.{latchBit}
 use Rattle.drive.specs.Status.{calmB, completeB}
-use Rattle.drive.specs.Time as time
+use Rattle.rules.specs.Time as time
 use Rattle.unit.specs.Sound.{lineTests}
 use Rattle.unit.proofs.Facts.{Selected}
+use Rattle.keeps.proofs.Gates.{write-gate-off, read-gate-off}
 use Rattle.word.specs.declared.Told.{Told}
 use Rattle.word.specs.declared.Told.the-variants.{Nothing, Word}
 use Rattle.word.specs.declared.Answered.{Answered}
@@ -28,7 +31,7 @@ use Rattle.event.specs.Answer.{numberOf}
 use Rattle.record.specs.declared.Chain.{Chain}
 use Rattle.record.specs.Record.{slotState, lookOf}
 use Rattle.decision.specs.Decision.{outcomeAnswer}
-use Rattle.kinds.specs.Signals.{with-command, with-request}
+use Rattle.unit.specs.Lines.{with-command, with-request}
 use Rattle.kinds.specs.Passing as kinds
 use Rattle.chain.specs.Decide.{decideOf}
 use Rattle.record.specs.Apply.{putOf, passSlot, changedOf, applied}
@@ -43,10 +46,9 @@ use Rattle.demand.specs.Drive.{toldOf, carriedBy, drive}
 use Rattle.demand.specs.Decided.{Lent, driveOf, decided}
 use Rattle.demand.specs.AtOnce.{Resting, passed, plain, given, fallAnswer, risen, refused, carried, atOnce}
 use Rattle.demand.proofs.DriveLaws.{drive-laws, carry-answer}
-use Rattle.demand.proofs.Slots.{set-same, map-at}
 use Rattle.demand.proofs.Here.{Here, here, none-passes, closed-none}
 use Rattle.demand.proofs.Around.{slots, around, Like, Fine, alike}
-use Rattle.demand.proofs.Plain.{plain-carries, plain-refuses, complete-calm, rest-pass, reading-kept, writing-kept, stays, no-reading, no-writing, low-first}
+use Rattle.demand.proofs.Plain.{plain-carries, plain-refuses, complete-calm, rest-pass, reading-kept, writing-kept, stays, low-first}
 
 module _ (c : Chain) (file : List ℕ) (r : Resting c) where
   abbrev p : Profile
@@ -82,7 +84,7 @@ module _ (c : Chain) (file : List ℕ) (r : Resting c) where
       kept : set (slots c file 0) k (stateOf b noTransfer) ≡ c .states
       kept =
           ap₂ (λ (l : List State) (s : State). set l k s) (none-passes c (r .sound)) (sym at-rest ∙ in-slot)
-          ∙ set-same (c .states) k blankState
+          ∙ set-getD (c .states) k blankState
 
       low : _≡_ {A = ℕ} 0 (c .lines .request)
       low = sym (r .request)
@@ -119,10 +121,10 @@ module _ (c : Chain) (file : List ℕ) (r : Resting c) where
     plain-passed = ap₂ (λ (q : Profile) (s : State). plainOf q s n) (same-profile us) (drive-passed us)
 
     no-read : b₁ .reading ≡ 0
-    no-read = reading-kept us b (no-reading p (c .lines) (driveOf c) drives (r .readgate))
+    no-read = reading-kept us b (read-gate-off p (c .lines) (driveOf c) drives (λ (on : c .lines .readgate ≡ 1). omega (arith, r .readgate)))
 
     no-write : b₁ .writing ≡ 0
-    no-write = writing-kept us b (no-writing p (c .lines) (driveOf c) drives (r .writegate))
+    no-write = writing-kept us b (write-gate-off p (c .lines) (driveOf c) drives (λ (on : c .lines .writegate ≡ 1). omega (arith, r .writegate)))
 
     carries : calmB b₁ ≡ true → plain n (passed us c) ≡ record { state = stateOf (carryOf p b₁ n .body) noTransfer; told = carryOf p b₁ n .told }
     carries q = plain-passed ∙ plain-carries p n b₁ no-read no-write q

@@ -1,5 +1,4 @@
 pub mod DriveLaws
-pub mod Slots
 pub mod Meets
 pub mod Here
 pub mod Around

@@ -4,7 +4,7 @@ use mathlib.Core.Path.{_≡_, refl, ap}
 use mathlib.Core.Bool.{Bool, true, false}
 use lib.Dec.{eqb}
 use Rattle.counts.specs.Choice.{if_then_else_}
-use Rattle.trailer.specs.declared.Profile.{Profile}
+use Rattle.profile.specs.declared.Profile.{Profile}
 use Rattle.handshake.specs.declared.Edge.{Edge}
 use Rattle.handshake.specs.declared.Edge.the-variants.{Keep, Drop, Carry}
 use Rattle.handshake.specs.Edges.{riseOf, fallOf, waitOf}
@@ -13,7 +13,7 @@ use Rattle.drive.specs.declared.Body.{Body}
 use Rattle.drive.specs.declared.State.{State}
 use Rattle.drive.specs.State.{stateOf}
 use Rattle.drive.specs.Status.{calmB}
-use Rattle.drive.specs.Time as time
+use Rattle.rules.specs.Time as time
 use Rattle.word.specs.declared.Told.{Told}
 use Rattle.word.specs.declared.Told.the-variants.{Nothing, Word}
 use Rattle.word.specs.Rules.{carryOf}
@@ -36,12 +36,12 @@ after-told Nothing = refl
 after-told (Word r) = refl
 
 module _ (p : Profile) (b : Body) where
-  met-state : (e : Edge) → unit.metOf p b e .state ≡ stood (met (drive p) b e)
+  met-state : (e : Edge) → unit.edgeOf p b e .state ≡ stood (met (drive p) b e)
   met-state (Keep t) = refl
   met-state Drop = refl
   met-state (Carry n) = ap (stateOf (carryOf p b n .body)) (after-told (carryOf p b n .told))
 
-  met-answer : (e : Edge) → numberOf (outcomeAnswer (unit.metOf p b e .outcome)) ≡ met (drive p) b e .answer
+  met-answer : (e : Edge) → numberOf (outcomeAnswer (unit.edgeOf p b e .outcome)) ≡ met (drive p) b e .answer
   met-answer (Keep t) = refl
   met-answer Drop = refl
   met-answer (Carry n) = carry-answer p b n

@@ -2,22 +2,16 @@
 use Prim.Native.Nat.{ℕ, _+_, _-_, _≤_}
 use native.Mathlib.Omega.{arith}
 use mathlib.Core.Path.{_≡_, refl, sym, _∙_}
-use mathlib.Core.Bool.{Bool, true, false}
+use mathlib.Core.Bool.{true, false}
 use mathlib.Core.List.{List, [], _∷_}
-use lib.Dec.{eqb}
-use borrow.Author.Tests.{leb-true, eqb-true, eqb-false}
-use Rattle.trailer.specs.declared.Profile.{Profile}
+use Rattle.profile.specs.declared.Profile.{Profile}
 use Rattle.handshake.specs.Transfer.{noTransfer}
 use Rattle.handshake.specs.Edges.{waitOf}
 use Rattle.drive.specs.declared.Body.{Body}
-use Rattle.drive.specs.declared.State.{State}
 use Rattle.drive.specs.State.{stateOf}
 use Rattle.drive.specs.Faults.{latchBit}
 use Rattle.drive.specs.Status.{calmB, completeB}
-use Rattle.drive.specs.Time.{passBody, passOf}
-use Rattle.drive.proofs.Facts.{parts}
-use Rattle.unit.specs.declared.Lines.{Lines}
-use Rattle.unit.proofs.Facts.{Selected, writes, reads}
+use Rattle.rules.specs.Time.{passBody, passOf}
 use Rattle.word.specs.declared.Told.the-variants.{Nothing}
 use Rattle.word.specs.Rules.{answered, carryOf, plainOf}
 use Rattle.keeps.proofs.Time.{calm-stays, body-twice}
@@ -55,22 +49,6 @@ pub stays : (s t : ℕ) (b : Body) → s ≤ t → calmB (passBody (record { 0 =
 stays s t b h q =
     let whole : s + (t - s) ≡ t = omega arith in
     (rw whole at (sym (body-twice (record { 0 = s }) (record { 0 = t - s }) b))) ∙ calm-stays (record { 0 = t - s }) (passBody (record { 0 = s }) b) q
-
-flag : (x : ℕ) (one : Bool) → eqb x 1 ≡ one → x ≤ 1 → (x ≡ 1 → ⊥) → x ≡ 0
-flag x true e l h = absurd (h (eqb-true x 1 e))
-flag x false e l h = let z = eqb-false x 1 e in omega arith
-
--- with both gates off a sound drive neither reads nor writes
-module _ (p : Profile) (l : Lines) (s : State) (f : Selected p l s) where
-  pub no-reading : l .readgate ≡ 0 → s .body .reading ≡ 0
-  no-reading off =
-      flag (s .body .reading) (eqb (s .body .reading) 1) refl (leb-true _ _ (parts p (s .body) (f .limits) .reading))
-      (λ one. omega (arith, off, reads p l s (f .reading) one .gate))
-
-  pub no-writing : l .writegate ≡ 0 → s .body .writing ≡ 0
-  no-writing off =
-      flag (s .body .writing) (eqb (s .body .writing) 1) refl (leb-true _ _ (parts p (s .body) (f .limits) .writing))
-      (λ one. omega (arith, off, writes p l s (f .writing) one .gate))
 
 pub low-first : (x : Bit) (xs : List Bit) → timeOf (x .low) ≤ sentTime x xs
 low-first x [] = omega arith

@@ -2,9 +2,9 @@
 use Prim.Native.Nat.{ℕ, _≤_}
 use native.Mathlib.Omega.{arith}
 use mathlib.Core.Path.{_≡_, refl, sym, ap, _∙_}
-use mathlib.Core.Bool.{Bool, true, false}
+use mathlib.Core.Bool.{true}
 use mathlib.Core.List.{List, [], _∷_}
-use lib.ListN.{length, length-set}
+use lib.ListN.{length}
 use borrow.Author.Tests.{le-leb, eq-eqb}
 use Rattle.handshake.specs.Transfer.{patience}
 use Rattle.event.specs.declared.Decoded.{Decoded}
@@ -12,8 +12,6 @@ use Rattle.event.specs.declared.Decoded.the-variants.{Is}
 use Rattle.event.specs.Decode.{ranged, lineOf, rowOf, decodeOf}
 use Rattle.event.specs.Answer.{numberOf}
 use Rattle.decision.specs.declared.Decision.{Decision}
-use Rattle.decision.specs.declared.Deed.{Deed}
-use Rattle.decision.specs.declared.Deed.the-variants.{Say, Read, Write}
 use Rattle.decision.specs.Deeds.{fileAfter}
 use Rattle.record.specs.Apply.{applied}
 use Rattle.soundness.specs.Sound.{soundB}
@@ -21,8 +19,10 @@ use Rattle.board.specs.declared.Stepped.{Stepped}
 use Rattle.judge.specs.Judge.{decodedOf, allowedOf, judgedOf}
 use Rattle.board.specs.Step.{performed, stepOf, stepFile}
 use Rattle.laws.proofs.Kept.{sound-kept}
-use Rattle.exchange.specs.Host.{Signal, level, ask, micros, Still, waits, sets, Bit, Gap, Sending, high, exchanges}
+use Rattle.laws.proofs.Run.{deed-long}
+use Rattle.exchange.specs.Host.{Signal, level, ask, micros, Still, waits, sets, Bit, Gap, Sending, exchanges}
 use Rattle.exchange.specs.Waits.{timeOf, BitsFit, GapsFit, InTime, Each, EachOfBits, EachOfGaps, EachWait}
+use Rattle.exchange.proofs.Sent.{high-small}
 use Rattle.exchange.proofs.Like.{Alike, exchanges-like}
 use Rattle.demand.specs.Decided.{Lent, eventOf, decisionOf, decided}
 use Rattle.demand.specs.AtOnce.{Resting, atOnce}
@@ -34,12 +34,6 @@ unfolding decodeOf rowOf ranged lineOf
 decodes (level v) h = rw (le-leb v 1 h)
 decodes (ask v) h = rw (le-leb v 1 h)
 decodes (micros us) h = rw (le-leb us 65535 h)
-
--- a deed leaves the file as long as it was
-as-long : (x : Deed) (file : List ℕ) → length (fileAfter x file) ≡ length file
-as-long (Say a) file = refl
-as-long (Read i) file = refl
-as-long (Write i byte) file = length-set file i byte
 
 -- on a sound chain with its own file a step is the decision carried out
 module _ (e : Signal) (d : Lent) (f : InRange e) (s : soundB (d .chain) ≡ true) (l : length (d .file) ≡ d .chain .length .0) where
@@ -65,7 +59,7 @@ module _ (e : Signal) (d : Lent) (f : InRange e) (s : soundB (d .chain) ≡ true
 
   still-long : length (decided .after e d .file) ≡ decided .after e d .chain .length .0
   unfolding applied
-  still-long = as-long (decisionOf e d .deed) (d .file) ∙ l
+  still-long = deed-long (decisionOf e d .deed) (d .file) ∙ l
 
 abbrev Short : ℕ → Type 0
 Short us = us ≤ 65_535
@@ -85,10 +79,6 @@ short-gaps (g ∷ gs) f =
     let up = f .1 in
     (short (g .low) (f .0), short (g .early) (omega arith), short (g .late) (omega arith), short-gaps gs (f .2))
 
-one-bit : (x : Bool) → high x ≤ 1
-one-bit true = omega arith
-one-bit false = omega arith
-
 abbrev Same : Lent → Lent → Type 0
 Same s t = (s ≡ t) × (soundB (s .chain) ≡ true) × (length (s .file) ≡ s .chain .length .0)
 
@@ -97,8 +87,8 @@ still-sound e s f h l = ap (λ (x : Lent). soundB (x .chain)) (after-is e s f h 
 
 alike : Alike decided stepped Same InRange
 alike = record {
-  levels = one-bit;
-  edges = one-bit;
+  levels = high-small;
+  edges = high-small;
   after = λ e s t f l. (after-is e s f (l .1) (l .2) ∙ ap (stepped .after e) (l .0), still-sound e s f (l .1) (l .2), still-long e s f (l .1) (l .2));
   answer = λ e s t f l. answer-is e s f (l .1) (l .2) ∙ ap (stepped .answer e) (l .0);
   acknowledged = λ s t l. ap (stepped .acknowledged) (l .0);

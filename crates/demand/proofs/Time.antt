@@ -6,12 +6,13 @@ use mathlib.Core.Bool.{true, false}
 use mathlib.Core.List.{List, [], _∷_, map}
 use lib.ListN.{length}
 use borrow.Author.Tests.{eq-eqb}
+use Rattle.counts.proofs.Slots.{map-map, map-at}
 use Rattle.handshake.specs.Transfer.{openB}
 use Rattle.pack.specs.Packs.{noPack}
 use Rattle.drive.specs.declared.State.{State}
 use Rattle.drive.specs.State.{blankState}
 use Rattle.drive.specs.Status.{completeB}
-use Rattle.drive.specs.Time as time
+use Rattle.rules.specs.Time as time
 use Rattle.keeps.proofs.Time.{complete-after}
 use Rattle.record.specs.declared.Chain.{Chain}
 use Rattle.record.specs.Record.{slotPack, slotState}
@@ -25,7 +26,6 @@ use Rattle.exchange.specs.Host.{micros, Still, waits, Going, going, sends, goes
 use Rattle.exchange.specs.Waits.{timeOf}
 use Rattle.demand.specs.Decided.{Lent, decided}
 use Rattle.demand.specs.AtOnce.{passed}
-use Rattle.demand.proofs.Slots.{map-map, map-at}
 use Rattle.demand.proofs.Meets.{slot-pass-pass}
 use Rattle.demand.proofs.Here.{there, none-passes}
 

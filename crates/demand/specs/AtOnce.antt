@@ -17,7 +17,7 @@ use Rattle.event.specs.Answer.{numberOf}
 use Rattle.record.specs.declared.Chain.{Chain}
 use Rattle.record.specs.Record.{lookOf}
 use Rattle.decision.specs.Decision.{outcomeAnswer}
-use Rattle.kinds.specs.Signals.{with-command}
+use Rattle.unit.specs.Lines.{with-command}
 use Rattle.chain.specs.Decide.{decideOf}
 use Rattle.record.specs.Apply.{putOf, applied}
 use Rattle.soundness.specs.Sound.{soundB}
@@ -29,7 +29,7 @@ use Rattle.demand.specs.Decided.{Lent, driveOf}
 -- a sound chain with a fitted drive selected, both gates off, request low, and no transfer open
 pub record Resting (c : Chain) : Type 0 where
   pub sound : soundB c ≡ true
-  pub selected : lookOf c .on ≡ true
+  pub selected : lookOf c .selected ≡ true
   pub writegate : c .lines .writegate ≡ 0
   pub readgate : c .lines .readgate ≡ 0
   pub request : c .lines .request ≡ 0

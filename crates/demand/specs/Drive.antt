@@ -2,13 +2,13 @@
 use Prim.Native.Nat.{ℕ}
 use mathlib.Core.Bool.{Bool, true, false}
 use mathlib.Core.Option.{Option, none, some}
-use Rattle.trailer.specs.declared.Profile.{Profile}
+use Rattle.profile.specs.declared.Profile.{Profile}
 use Rattle.drive.specs.declared.Body.{Body}
 use Rattle.drive.specs.declared.Outcome.{Outcome}
 use Rattle.drive.specs.declared.Outcome.the-variants.{Done, Inhibited, Fault}
 use Rattle.drive.specs.Faults.{latchBit}
 use Rattle.drive.specs.Status.{calmB}
-use Rattle.drive.specs.Time.{passBody}
+use Rattle.rules.specs.Time.{passBody}
 use Rattle.word.specs.declared.Carried as word
 use Rattle.word.specs.declared.Told.{Told}
 use Rattle.word.specs.declared.Told.the-variants.{Nothing, Word}

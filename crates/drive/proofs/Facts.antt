@@ -1,18 +1,15 @@
--- What the tests on a drive give as facts.
+-- What the limits on a drive give as facts.
 use mathlib.Core.Path.{_≡_}
 use mathlib.Core.Bool.{true}
 use Prim.Native.Nat.{_<_}
 use lib.Dec.{leb}
 use borrow.Author.Needs.{needs}
-use borrow.Author.Tests.{ltb-true, eqb-true}
+use borrow.Author.Tests.{ltb-true}
 use Rattle.counts.proofs.Tests.{each, all}
-use Rattle.trailer.specs.declared.Profile.{Profile}
-use Rattle.trailer.specs.General.{soft}
-use Rattle.trailer.specs.Valid.{sectorOk}
+use Rattle.profile.specs.declared.Profile.{Profile}
+use Rattle.profile.specs.General.{soft}
+use Rattle.profile.specs.Valid.{sectorOk}
 use Rattle.drive.specs.declared.Body.{Body}
-use Rattle.drive.specs.declared.State.{State}
-use Rattle.drive.specs.Status.{readyB, completeB}
-use Rattle.drive.specs.Gates.{usableTests, usableB}
 use Rattle.drive.specs.Limits.{armTests, armB, timersB, latchedB, motorB, limitTests, limitsB}
 
 -- a drive whose fields keep their limits
@@ -39,16 +36,3 @@ whole p b q = all (limitTests p b) (search needs)
 -- the heads stand on a cylinder that is there
 pub on-cylinder : (p : Profile) (b : Body) → limitsB p b ≡ true → b .arm .cylinder .0 < p .shape .cylinders .0
 on-cylinder p b h = ltb-true _ _ (each (armTests p (b .arm)) (parts p b h .arm) .0)
-
--- a drive that may read or write
-pub record Usable (p : Profile) (s : State) : Type 0 where
-  pub ready : readyB (s .body) ≡ true
-  pub complete : completeB s ≡ true
-  pub known : s .body .arm .lost ≡ 0
-  pub present : s .body .head .0 < p .shape .heads .0
-
-pub usable : (p : Profile) (s : State) → usableB p s ≡ true → Usable p s
-unfolding usableB
-usable p s h =
-    let e = each (usableTests p s) h in
-    record { ready = e .0; complete = e .1 .0; known = eqb-true _ _ (e .1 .1 .0); present = ltb-true _ _ (e .1 .1 .1 .0) }

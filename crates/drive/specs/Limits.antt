@@ -5,9 +5,9 @@ use mathlib.Core.List.{List, [], _∷_}
 use lib.Dec.{ltb, leb, eqb}
 use Rattle.counts.specs.Bytes.{bit}
 use Rattle.counts.specs.Tests.{allOf}
-use Rattle.trailer.specs.declared.Profile.{Profile}
-use Rattle.trailer.specs.General.{soft}
-use Rattle.trailer.specs.Valid.{sectorOk}
+use Rattle.profile.specs.declared.Profile.{Profile}
+use Rattle.profile.specs.General.{soft}
+use Rattle.profile.specs.Valid.{sectorOk}
 use Rattle.drive.specs.declared.Latched.{Latched}
 use Rattle.drive.specs.declared.Arm.{Arm}
 use Rattle.drive.specs.declared.Timers.{Timers}
@@ -52,7 +52,7 @@ limitTests p b =
     timersB (b .timers) ∷
     latchedB (b .latched) ∷
     sectorOk (soft (p .general)) (b .sector .0) ∷
-    leb (b .head .0) 15 ∷
+    leb (b .head .0) 15 ∷  -- "head ≤ 15"
     motorB (b .motor) (b .timers .busy .0) ∷
     leb (b .reading) 1 ∷
     leb (b .writing) 1 ∷ []

@@ -2,7 +2,7 @@
 use Prim.Native.Nat.{ℕ}
 use Rattle.counts.specs.declared.Head.{Head}
 use Rattle.counts.specs.declared.Position.{Position}
-use Rattle.trailer.specs.declared.Profile.{Profile}
+use Rattle.profile.specs.declared.Profile.{Profile}
 use Rattle.handshake.specs.declared.Transfer.{Transfer}
 use Rattle.handshake.specs.Transfer.{noTransfer}
 use Rattle.drive.specs.declared.Latched.{Latched}

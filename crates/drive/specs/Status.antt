@@ -4,8 +4,8 @@ use mathlib.Core.Bool.{Bool, _&&_, not}
 use lib.Bits.{bitOr}
 use lib.Dec.{eqb}
 use Rattle.counts.specs.Choice.{if_then_else_}
-use Rattle.trailer.specs.declared.Profile.{Profile}
-use Rattle.trailer.specs.General.{removable}
+use Rattle.profile.specs.declared.Profile.{Profile}
+use Rattle.profile.specs.General.{removable}
 use Rattle.handshake.specs.Transfer.{openB}
 use Rattle.drive.specs.declared.Body.{Body}
 use Rattle.drive.specs.declared.State.{State}

@@ -1,18 +1,14 @@
 // One drive: what its pack says stands in its profile, what it is doing in its state. Numbers only, so that C can lend it.
-pub mod cell;
 pub mod faults;
-pub mod gates;
-pub mod heads;
 pub mod limits;
 pub mod status;
-pub mod time;
 
 use counts::Cylinder;
 use counts::Head;
 use counts::Micros;
 use counts::Position;
 use handshake::Transfer;
-use trailer::Profile;
+use profile::Profile;
 ghost use mathlib.Core.Path.{_≡_};
 ghost use Rattle.drive.specs.State.{freshBody, blankBody, freshOf, blankState};
 
@@ -105,7 +101,7 @@ impl Body {
 
     pub const LONGEST_SWITCH: u32 = 60_000;
 
-    pub fn fresh(p: Profile) -> Body
+    fn fresh(p: Profile) -> Body
         ensures { λ r. ⌜ r ≡ freshBody p ⌝ }
     {
         let timers = Timers {
@@ -131,7 +127,7 @@ impl Body {
     }
 
     // What stands where no drive is: all zeros.
-    pub fn blank() -> Body
+    fn blank() -> Body
         ensures { λ r. ⌜ r ≡ blankBody ⌝ }
     {
         let timers = Timers {

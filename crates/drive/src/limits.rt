@@ -3,7 +3,7 @@ use crate::Arm;
 use crate::Body;
 use crate::Latched;
 use crate::Timers;
-use trailer::Profile;
+use profile::Profile;
 ghost use mathlib.Core.Path.{_≡_};
 ghost use Rattle.drive.specs.Limits.{armB, timersB, latchedB, motorB, limitsB};
 
@@ -33,7 +33,7 @@ fn motor_ok(motor: u8, busy: u32) -> bool
     (motor <= Body::UP) & ((motor != Body::STARTING) | (busy != 0))
 }
 
-pub fn keeps(p: Profile, b: Body) -> bool
+pub fn kept(p: Profile, b: Body) -> bool
     ensures { λ r. ⌜ r ≡ limitsB p b ⌝ }
 {
     let arm = b.arm;
@@ -42,7 +42,7 @@ pub fn keeps(p: Profile, b: Body) -> bool
     arm_ok(p, arm)
         & timers_ok(timers)
         & latched_ok(latched)
-        & trailer::sector_ok(trailer::soft(p.general), b.sector.0)
+        & profile::valid::sector_ok(profile::general::soft(p.general), b.sector.0)
         & (b.head.0 <= Body::LAST_HEAD)
         & motor_ok(b.motor, timers.busy.0)
         & (b.reading <= 1)

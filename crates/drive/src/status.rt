@@ -1,7 +1,7 @@
 // What a drive tells of itself: attention, ready, command complete, and the status word.
 use crate::Body;
 use crate::State;
-use trailer::Profile;
+use profile::Profile;
 ghost use mathlib.Core.Path.{_≡_};
 ghost use Rattle.drive.specs.Status.{attentionB, readyB, calmB, completeB, protectedBit, stoppedBit, statusOf};
 
@@ -40,7 +40,7 @@ fn protected_bit(p: Profile) -> u16
     if p.protected != 1 {
         return 0;
     }
-    if trailer::removable(p.general) {
+    if profile::general::removable(p.general) {
         return Body::PROTECTED_REMOVABLE;
     }
     Body::PROTECTED_FIXED

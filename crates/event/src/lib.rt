@@ -1,12 +1,10 @@
-// Events, decoded from their three numbers, and the answers to them.
+// Events and the answers to them.
+pub mod decode;
+pub mod numbers;
+
 use counts::Head;
 use counts::Micros;
 use counts::Position;
-ghost use mathlib.Core.Path.{_≡_};
-ghost use mathlib.Core.Bool.{_&&_};
-ghost use Rattle.event.specs.Operands.{isSelectCode, isHead, isLevel, isSpan, isPosition, isByte, isSlot, isCondition, strayB};
-ghost use Rattle.event.specs.Decode.{ranged, lineOf, rowOf, decodeOf};
-ghost use Rattle.event.specs.Answer.{numberOf, valueOf};
 
 // What happens on the cable, or in a slot.
 pub enum Event {
@@ -29,128 +27,6 @@ pub enum Decoded {
     Range,
 }
 
-// The highest of the conditions.
-const CONDITIONS: u32 = 3;
-
-// Kinds up to 6 have no second operand.
-fn stray(kind: u32, b: u32) -> bool
-    ensures { λ r. ⌜ r ≡ strayB kind b ⌝ }
-{
-    (kind <= 6) & (b != 0)
-}
-
-fn select(a: u32) -> Decoded
-    ensures { λ r. ⌜ r ≡ ranged (isSelectCode a) (Event.Select a) ⌝ }
-{
-    if a > 7 {
-        return Decoded::Range;
-    }
-    Decoded::Is(Event::Select(a as u8))
-}
-
-fn heads(a: u32) -> Decoded
-    ensures { λ r. ⌜ r ≡ ranged (isHead a) (Event.Heads (record { 0 = a })) ⌝ }
-{
-    if a > 15 {
-        return Decoded::Range;
-    }
-    Decoded::Is(Event::Heads(Head(a as u8)))
-}
-
-// One of the four lines that have a level.
-fn line(kind: u32, a: u32) -> Decoded
-    ensures { λ r. ⌜ r ≡ ranged (isLevel a) (lineOf kind a) ⌝ }
-{
-    if a > 1 {
-        return Decoded::Range;
-    }
-    let level = a as u8;
-    if kind == 2 {
-        return Decoded::Is(Event::WriteGate(level));
-    }
-    if kind == 3 {
-        return Decoded::Is(Event::ReadGate(level));
-    }
-    if kind == 4 {
-        return Decoded::Is(Event::Data(level));
-    }
-    Decoded::Is(Event::Request(level))
-}
-
-fn pass(a: u32) -> Decoded
-    ensures { λ r. ⌜ r ≡ ranged (isSpan a) (Event.Pass (record { 0 = a })) ⌝ }
-{
-    if a > 65_535 {
-        return Decoded::Range;
-    }
-    Decoded::Is(Event::Pass(Micros(a)))
-}
-
-fn cell(a: u32, b: u32) -> Decoded
-    ensures { λ r. ⌜ r ≡ ranged (isPosition a && isByte b) (Event.Cell (record { 0 = a }) b) ⌝ }
-{
-    if a > 65_535 {
-        return Decoded::Range;
-    }
-    if b > 255 {
-        return Decoded::Range;
-    }
-    Decoded::Is(Event::Cell(Position(a as u16), b as u8))
-}
-
-fn condition(a: u32, b: u32) -> Decoded
-    ensures { λ r. ⌜ r ≡ ranged (isSlot a && isCondition b) (Event.Condition a b) ⌝ }
-{
-    if a < 1 {
-        return Decoded::Range;
-    }
-    if a > 7 {
-        return Decoded::Range;
-    }
-    if b < 1 {
-        return Decoded::Range;
-    }
-    if b > CONDITIONS {
-        return Decoded::Range;
-    }
-    Decoded::Is(Event::Condition(a as u8, b as u8))
-}
-
-// The event of a kind up to 8, where its operands are in range.
-fn row(kind: u32, a: u32, b: u32) -> Decoded
-    ensures { λ r. ⌜ r ≡ rowOf kind a b ⌝ }
-{
-    if kind == 0 {
-        return select(a);
-    }
-    if kind == 1 {
-        return heads(a);
-    }
-    if kind <= 5 {
-        return line(kind, a);
-    }
-    if kind == 6 {
-        return pass(a);
-    }
-    if kind == 7 {
-        return cell(a, b);
-    }
-    condition(a, b)
-}
-
-// An event from its three numbers.
-pub fn decode(kind: u32, a: u32, b: u32) -> Decoded
-    ensures { λ r. ⌜ r ≡ decodeOf kind a b ⌝ }
-{
-    if kind > 8 {
-        return Decoded::Unknown;
-    }
-    if stray(kind, b) {
-        return Decoded::Range;
-    }
-    row(kind, a, b)
-}
-
 pub enum Answer {
     Taken,
     Read(u8),
@@ -164,44 +40,4 @@ pub enum Answer {
     WrongLength,
     Inapplicable,
     PastTrack,
-}
-
-// Document 01's number of an answer.
-pub fn number(a: Answer) -> u8
-    ensures { λ r. ⌜ r ≡ numberOf a ⌝ }
-{
-    match a {
-        Answer::Taken => 0,
-        Answer::Read(_) => 1,
-        Answer::Written => 2,
-        Answer::Unselected => 3,
-        Answer::Inhibited => 4,
-        Answer::Fault => 5,
-        Answer::UnknownKind => 20,
-        Answer::OutOfRange => 21,
-        Answer::Malformed => 22,
-        Answer::WrongLength => 23,
-        Answer::Inapplicable => 24,
-        Answer::PastTrack => 25,
-    }
-}
-
-// The byte that an answer gives.
-pub fn value(a: Answer) -> u8
-    ensures { λ r. ⌜ r ≡ valueOf a ⌝ }
-{
-    match a {
-        Answer::Taken => 0,
-        Answer::Read(byte) => byte,
-        Answer::Written => 0,
-        Answer::Unselected => 0,
-        Answer::Inhibited => 0,
-        Answer::Fault => 0,
-        Answer::UnknownKind => 0,
-        Answer::OutOfRange => 0,
-        Answer::Malformed => 0,
-        Answer::WrongLength => 0,
-        Answer::Inapplicable => 0,
-        Answer::PastTrack => 0,
-    }
 }

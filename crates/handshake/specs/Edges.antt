@@ -44,19 +44,19 @@ unfoldable pub riseOf : Bool → Bool → ℕ → Transfer → Edge
 riseOf gated calm level t =
     if gated then Drop  -- "either gate on: bit 6, any open transfer dropped, no acknowledge"
     else if not (openB t || calm) then Drop  -- "Else no transfer open and command complete false: bit 6, no acknowledge"
-    else if eqb (t .way) responding then Keep (putOutOf t)
-    else Keep (takenOf level t)
+    else if eqb (t .way) responding then Keep (putOutOf t)  -- "or the next response bit is put out"
+    else Keep (takenOf level t)  -- "Else the data line is taken"
 
 abbrev pub loweredOf : Transfer → Transfer
 loweredOf t = record { waiting = record { 0 = 0 }; bits = t .bits; response = t .response; way = t .way; count = t .count; acknowledge = 0 }
 
--- "On a fall with acknowledge up it falls; after the 17th bit in, the word is carried out ..; after the 17th bit out the transfer ends."
+-- "On a fall with acknowledge up"
 unfoldable pub fallOf : Transfer → Edge
 fallOf t =
     if not (eqb (t .acknowledge) 1) then Keep t
-    else if ltb (t .count) wordBits then Keep (loweredOf t)
-    else if eqb (t .way) taking then Carry (t .bits)
-    else Keep noTransfer
+    else if ltb (t .count) wordBits then Keep (loweredOf t)  -- "it falls"
+    else if eqb (t .way) taking then Carry (t .bits)  -- "after the 17th bit in, the word is carried out"
+    else Keep noTransfer  -- "after the 17th bit out the transfer ends"
 
 abbrev pub agedBy : Micros → Transfer → Transfer
 agedBy us t = record {
@@ -68,9 +68,9 @@ agedBy us t = record {
   acknowledge = t .acknowledge;
 }
 
--- "More than 10,000 µs since its last request edge (house): bit 6, dropped."
+-- "More than 10,000 µs since its last request edge (house)"
 unfoldable pub waitOf : Micros → Transfer → Edge
 waitOf us t =
     if eqb (t .way) 0 then Keep t
-    else if ltb patience (t .waiting .0 + us .0) then Drop
+    else if ltb patience (t .waiting .0 + us .0) then Drop  -- "bit 6, dropped"
     else Keep (agedBy us t)

@@ -25,8 +25,8 @@ noneB t = eqb (t .way) 0 && idleB t
 abbrev pub takingTests : ℕ → Transfer → List Bool
 takingTests request t =
     leb (t .count) wordBits ∷
-    leb (t .waiting .0) patience ∷
-    eqb (t .acknowledge) request ∷
+    leb (t .waiting .0) patience ∷  -- "waiting ≤ 10,000"
+    eqb (t .acknowledge) request ∷  -- "an open transfer's acknowledge .. at that request level"
     leb 1 (t .count) ∷
     leb (t .count) (16 + request) ∷
     eqb (t .bits / 2 ^ t .count) 0 ∷
@@ -38,7 +38,7 @@ takingB request t = allOf (takingTests request t)
 -- 0 to 16 bits out at low, 1 to 17 at high; a response has seventeen bits
 abbrev pub respondingTests : ℕ → Transfer → List Bool
 respondingTests request t =
-    leb (t .waiting .0) patience ∷
+    leb (t .waiting .0) patience ∷  -- "waiting ≤ 10,000"
     eqb (t .acknowledge) request ∷
     leb request (t .count) ∷
     leb (t .count) (16 + request) ∷

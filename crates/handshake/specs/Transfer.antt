@@ -27,6 +27,7 @@ noTransfer = record { waiting = record { 0 = 0 }; bits = 0; response = 0; way = 
 abbrev pub respondingWith : ℕ → Transfer
 respondingWith r = record { waiting = record { 0 = 0 }; bits = 0; response = r; way = responding; count = 0; acknowledge = 0 }
 
+-- "A transfer is open from its first bit to the end of its last fall, response included."
 abbrev pub openB : Transfer → Bool
 openB t = not (eqb (t .way) 0)
 

@@ -27,7 +27,7 @@ pub fn judge(c: Chain, length: usize, kind: u32, a: u32, b: u32) -> Decision
     ensures { λ r. ⌜ r ≡ judgedOf c length kind a b ⌝ }
 {
     let l = c.lines;
-    let decoded = event::decode(kind, a, b);
+    let decoded = event::decode::decode(kind, a, b);
     match decoded {
         Decoded::Is(e) => allowed(c, length, e),
         Decoded::Unknown => decision::say(l, Answer::UnknownKind),

@@ -12,14 +12,14 @@ use Rattle.counts.specs.Bytes.{bit}
 use Rattle.counts.specs.Choice.{if_then_else_}
 use Rattle.counts.proofs.Tests.{both, join, each}
 use Rattle.counts.proofs.Choice.{by-test}
-use Rattle.trailer.specs.declared.Profile.{Profile}
-use Rattle.trailer.specs.Valid.{fieldTests, validB}
-use Rattle.trailer.proofs.Facts.{ranges}
+use Rattle.profile.specs.declared.Profile.{Profile}
+use Rattle.profile.specs.Valid.{fieldTests, validB}
+use Rattle.profile.proofs.Facts.{ranges}
 use Rattle.drive.specs.declared.Body.{Body}
 use Rattle.drive.specs.State.{starting, up, with-reading, with-writing, freshBody}
 use Rattle.drive.specs.Faults.{latchBit, losePosition}
-use Rattle.drive.specs.Heads.{switchedOf}
-use Rattle.drive.specs.Time.{motorAfter, passBody}
+use Rattle.rules.specs.Heads.{switchedOf}
+use Rattle.rules.specs.Time.{motorAfter, passBody}
 use Rattle.drive.specs.Limits.{armTests, timerTests, motorB}
 use Rattle.drive.proofs.Facts.{Parts}
 use Rattle.acts.proofs.Limits.{latch-keeps}

@@ -6,15 +6,16 @@ use native.Mathlib.Omega.{arith}
 use lib.Dec.{eqb}
 use Rattle.counts.specs.Bytes.{bit}
 use Rattle.counts.proofs.Choice.{by-test}
-use Rattle.trailer.specs.declared.Profile.{Profile}
-use Rattle.trailer.specs.Valid.{validB}
+use Rattle.profile.specs.declared.Profile.{Profile}
+use Rattle.profile.specs.Valid.{validB}
 use Rattle.drive.specs.declared.Body.{Body}
 use Rattle.drive.specs.declared.State.{State}
 use Rattle.drive.specs.State.{stateOf}
 use Rattle.drive.specs.Faults.{latchOf, latchBit, conditionOf}
 use Rattle.drive.specs.Status.{completeB}
-use Rattle.drive.specs.Gates.{usableB}
-use Rattle.drive.proofs.Facts.{whole, usable}
+use Rattle.gates.specs.Gates.{usableB}
+use Rattle.drive.proofs.Facts.{whole}
+use Rattle.gates.proofs.Facts.{usable}
 use Rattle.unit.specs.declared.Lines.{Lines}
 use Rattle.unit.specs.Sound.{soundB}
 use Rattle.unit.proofs.Facts.{selected}

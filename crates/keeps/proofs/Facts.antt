@@ -1,10 +1,10 @@
 -- A sound drive as named facts, both ways.
-use mathlib.Core.Path.{_≡_, refl}
-use mathlib.Core.Bool.{Bool, true, false, not, false≢true}
+use mathlib.Core.Path.{_≡_}
+use mathlib.Core.Bool.{Bool, true, false}
 use borrow.Author.Tests.{eqb-true, eq-eqb}
-use Rattle.counts.specs.Choice.{if_then_else_}
+use Rattle.counts.proofs.Choice.{guarded}
 use Rattle.counts.proofs.Tests.{each, all}
-use Rattle.trailer.specs.declared.Profile.{Profile}
+use Rattle.profile.specs.declared.Profile.{Profile}
 use Rattle.handshake.specs.Left.{noneB}
 use Rattle.drive.specs.declared.State.{State}
 use Rattle.drive.specs.Limits.{limitsB}
@@ -25,10 +25,6 @@ pub record Unselected (p : Profile) (s : State) : Type 0 where
   pub none : noneB (s .transfer) ≡ true
   pub writing : s .body .writing ≡ 0
   pub reading : s .body .reading ≡ 0
-
-guarded : (a b : Bool) → (if not a then false else b) ≡ true → (a ≡ true) × (b ≡ true)
-guarded true b h = (refl, h)
-guarded false b h = absurd (false≢true h)
 
 pub unselected : (p : Profile) (l : Lines) (s : State) → soundB p l false s ≡ true → Unselected p s
 unfolding soundB unselectedB

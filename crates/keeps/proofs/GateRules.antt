@@ -6,20 +6,21 @@ use lib.Dec.{eqb}
 use borrow.Author.Tests.{leb-true, eqb-true, eqb-false, not-false}
 use Rattle.counts.proofs.Tests.{each}
 use Rattle.counts.proofs.Choice.{by-test}
-use Rattle.trailer.specs.declared.Profile.{Profile}
-use Rattle.trailer.specs.Valid.{validB}
-use Rattle.trailer.proofs.Facts.{ranges}
+use Rattle.profile.specs.declared.Profile.{Profile}
+use Rattle.profile.specs.Valid.{validB}
+use Rattle.profile.proofs.Facts.{ranges}
 use Rattle.drive.specs.declared.State.{State}
 use Rattle.drive.specs.declared.Ruled.{Ruled}
 use Rattle.drive.specs.State.{with-reading, with-writing, stateOf}
 use Rattle.drive.specs.Faults.{latchOf, latchBit}
 use Rattle.drive.specs.Status.{attentionB, completeB}
-use Rattle.drive.specs.Gates.{usableB, writeRises, readRises, writeFalls, readFalls}
-use Rattle.drive.proofs.Facts.{whole, usable}
+use Rattle.gates.specs.Gates.{usableB, writeRises, readRises, writeFalls, readFalls}
+use Rattle.drive.proofs.Facts.{whole}
+use Rattle.gates.proofs.Facts.{usable}
 use Rattle.unit.specs.declared.Lines.{Lines}
 use Rattle.unit.specs.Sound.{lineTests, linesB, soundB}
 use Rattle.unit.proofs.Facts.{selected}
-use Rattle.keeps.proofs.Levels.{with-writegate, with-readgate}
+use Rattle.unit.specs.Lines.{with-writegate, with-readgate}
 use Rattle.keeps.proofs.Facts.{from-selected, sound-parts}
 use Rattle.keeps.proofs.Gates.{not-writing, not-reading, may-write, may-read, flag, write-gate-off, read-gate-off, still-writes, still-reads, neither}
 use Rattle.keeps.proofs.Bodies.{reading-limits, writing-limits, latch-limits}

@@ -7,11 +7,12 @@ use lib.Dec.{eqb}
 use borrow.Author.Tests.{leb-true, eqb-true, eqb-false, eq-eqb}
 use Rattle.counts.specs.Tests.{allOf}
 use Rattle.counts.proofs.Tests.{all}
-use Rattle.trailer.specs.declared.Profile.{Profile}
+use Rattle.profile.specs.declared.Profile.{Profile}
 use Rattle.handshake.specs.Left.{leftB}
 use Rattle.drive.specs.declared.State.{State}
 use Rattle.drive.specs.Status.{completeB}
-use Rattle.drive.proofs.Facts.{Parts, parts, whole, usable}
+use Rattle.drive.proofs.Facts.{Parts, parts, whole}
+use Rattle.gates.proofs.Facts.{usable}
 use Rattle.unit.specs.declared.Lines.{Lines}
 use Rattle.unit.specs.Sound.{writingTests, writingB, readingTests, readingB, soundB}
 use Rattle.unit.proofs.Facts.{Selected, Writes, writes, Reads, reads}

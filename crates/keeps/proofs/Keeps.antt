@@ -1,8 +1,8 @@
 -- Each rule of a drive takes a sound drive to a sound drive.
 use mathlib.Core.Path.{_≡_, refl}
 use mathlib.Core.Bool.{true, false}
-use Rattle.trailer.specs.declared.Profile.{Profile}
-use Rattle.trailer.specs.Valid.{validB}
+use Rattle.profile.specs.declared.Profile.{Profile}
+use Rattle.profile.specs.Valid.{validB}
 use Rattle.drive.specs.declared.State.{State}
 use Rattle.drive.specs.State.{freshOf}
 use Rattle.drive.proofs.Facts.{whole}

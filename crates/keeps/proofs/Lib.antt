@@ -1,4 +1,3 @@
-pub mod Levels
 pub mod Facts
 pub mod Left
 pub mod Gates

@@ -8,8 +8,8 @@ use borrow.Author.Tests.{ltb-true, leb-true, eqb-true, eqb-false, lt-ltb, eq-eqb
 use Rattle.counts.specs.declared.Head.{Head}
 use Rattle.counts.proofs.Tests.{both, each, all}
 use Rattle.counts.proofs.Choice.{by-test}
-use Rattle.trailer.specs.declared.Profile.{Profile}
-use Rattle.trailer.specs.Valid.{validB}
+use Rattle.profile.specs.declared.Profile.{Profile}
+use Rattle.profile.specs.Valid.{validB}
 use Rattle.handshake.specs.declared.Edge.{Edge}
 use Rattle.handshake.specs.Transfer.{taking, responding, wordBits, noTransfer, respondingWith, openB}
 use Rattle.handshake.specs.Edges.{takenOf, putOutOf, riseOf, loweredOf, fallOf}
@@ -18,19 +18,20 @@ use Rattle.drive.specs.declared.State.{State}
 use Rattle.drive.specs.State.{stateOf}
 use Rattle.drive.specs.Faults.{latchOf}
 use Rattle.drive.specs.Status.{calmB, completeB}
-use Rattle.drive.specs.Gates.{usableTests, usableB}
-use Rattle.drive.specs.Time.{droppedOf}
-use Rattle.drive.proofs.Facts.{parts, whole, usable}
+use Rattle.gates.specs.Gates.{usableTests, usableB}
+use Rattle.rules.specs.Time.{droppedOf}
+use Rattle.drive.proofs.Facts.{parts, whole}
+use Rattle.gates.proofs.Facts.{usable}
 use Rattle.word.specs.declared.Told.{Told}
 use Rattle.word.specs.declared.Told.the-variants.{Nothing, Word}
 use Rattle.word.specs.Rules.{carryOf}
 use Rattle.word.proofs.Laws.{told-reply, word-leaves}
 use Rattle.word.proofs.Limits.{limits-kept}
 use Rattle.unit.specs.declared.Lines.{Lines}
-use Rattle.unit.specs.Request.{afterWord, carriedOut, metOf, gatedB, requestRises, requestFalls}
+use Rattle.unit.specs.Request.{afterWord, carriedOut, edgeOf, gatedB, requestRises, requestFalls}
 use Rattle.unit.specs.Sound.{lineTests, linesB, writingB, readingB, soundB}
 use Rattle.unit.proofs.Facts.{Selected, selected, Reads}
-use Rattle.keeps.proofs.Levels.{with-request}
+use Rattle.unit.specs.Lines.{with-request}
 use Rattle.keeps.proofs.Facts.{from-selected, sound-parts}
 use Rattle.keeps.proofs.Gates.{both-off, not-writing, write-gate-off, read-gate-off, not-complete, still-reads, neither}
 use Rattle.keeps.proofs.Left.{giving-left, none-left}
@@ -88,7 +89,7 @@ module _ (p : Profile) (v : validB p ≡ true) (l : Lines) (s : State) where
       let m = with-request 1 l in
       let drops = dropped-sound sound in
       let left = rise-left (l .command) (s .transfer) (leb-true _ _ (each (lineTests l) k .1 .1 .1 .1 .0)) (rw low at (f .left)) in
-      let or = by-test (λ (e : Edge). soundB p m true (metOf p (s .body) e .state) ≡ true) in
+      let or = by-test (λ (e : Edge). soundB p m true (edgeOf p (s .body) e .state) ≡ true) in
       or (gatedB l) _ _ (λ _. drops) λ off.
       let e = both-off (eqb (l .writegate) 1) (eqb (l .readgate) 1) off in
       let shut = write-gate-off p l s f (eqb-false _ _ (e .0)) in
@@ -116,7 +117,7 @@ module _ (p : Profile) (v : validB p ≡ true) (l : Lines) (s : State) where
       let q = sound-parts p l true s sound in
       let m = with-request 0 l in
       let left : leftB 1 (s .transfer) ≡ true = rw high at (f .left) in
-      let or = by-test (λ (e : Edge). soundB p m true (metOf p (s .body) e .state) ≡ true) in
+      let or = by-test (λ (e : Edge). soundB p m true (edgeOf p (s .body) e .state) ≡ true) in
       or (not (eqb (s .transfer .acknowledge) 1)) _ _
       (λ down. from-selected p m s (record {
         limits = f .limits;

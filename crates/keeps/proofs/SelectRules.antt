@@ -8,8 +8,8 @@ use borrow.Author.Tests.{leb-true, eqb-true, eqb-false, not-false}
 use Rattle.counts.specs.declared.Head.{Head}
 use Rattle.counts.proofs.Tests.{each}
 use Rattle.counts.proofs.Choice.{by-test}
-use Rattle.trailer.specs.declared.Profile.{Profile}
-use Rattle.trailer.specs.Valid.{validB}
+use Rattle.profile.specs.declared.Profile.{Profile}
+use Rattle.profile.specs.Valid.{validB}
 use Rattle.handshake.specs.Transfer.{openB}
 use Rattle.handshake.specs.Left.{leftB}
 use Rattle.drive.specs.declared.Body.{Body}
@@ -17,13 +17,14 @@ use Rattle.drive.specs.declared.State.{State}
 use Rattle.drive.specs.declared.Ruled.{Ruled}
 use Rattle.drive.specs.State.{with-reading, stateOf}
 use Rattle.drive.specs.Faults.{latchOf}
-use Rattle.drive.specs.Heads.{switchedOf, headChange, metOf, leftOf}
-use Rattle.drive.specs.Time.{droppedOf}
+use Rattle.rules.specs.Heads.{switchedOf, headChange, metOf}
+use Rattle.rules.specs.Left.{leftOf}
+use Rattle.rules.specs.Time.{droppedOf}
 use Rattle.drive.proofs.Facts.{Parts, whole}
 use Rattle.unit.specs.declared.Lines.{Lines}
 use Rattle.unit.specs.Sound.{lineTests, linesB, writingB, readingB, soundB}
 use Rattle.unit.proofs.Facts.{selected}
-use Rattle.keeps.proofs.Levels.{with-select, with-heads}
+use Rattle.unit.specs.Lines.{with-select, with-heads}
 use Rattle.keeps.proofs.Facts.{from-selected, unselected, from-unselected, sound-parts}
 use Rattle.keeps.proofs.Gates.{both-off, flag, neither}
 use Rattle.keeps.proofs.Left.{none-left, left-none}

@@ -18,7 +18,7 @@ use Rattle.drive.specs.declared.State.{State}
 use Rattle.drive.specs.Faults.{latchOf}
 use Rattle.drive.specs.State.{starting, up, stateOf}
 use Rattle.drive.specs.Status.{calmB, completeB}
-use Rattle.drive.specs.Time.{lessOf, motorAfter, passBody, droppedOf, passOf}
+use Rattle.rules.specs.Time.{lessOf, motorAfter, passBody, droppedOf, passOf}
 
 -- the motor comes up exactly where it is starting and its time, if any is left, runs out
 motor-same : (motor : ℕ) (busy us : Micros) → eqb motor starting ≡ false → motorAfter motor busy us ≡ motor

@@ -8,8 +8,8 @@ use borrow.Author.Tests.{ltb-false, eqb-false}
 use Rattle.counts.specs.declared.Micros.{Micros}
 use Rattle.counts.proofs.Tests.{both}
 use Rattle.counts.proofs.Choice.{by-test}
-use Rattle.trailer.specs.declared.Profile.{Profile}
-use Rattle.trailer.specs.Valid.{validB}
+use Rattle.profile.specs.declared.Profile.{Profile}
+use Rattle.profile.specs.Valid.{validB}
 use Rattle.handshake.specs.declared.Edge.{Edge}
 use Rattle.handshake.specs.Transfer.{patience, noTransfer}
 use Rattle.handshake.specs.Edges.{agedBy, waitOf}
@@ -18,7 +18,7 @@ use Rattle.drive.specs.declared.State.{State}
 use Rattle.drive.specs.State.{stateOf}
 use Rattle.drive.specs.Faults.{latchOf}
 use Rattle.drive.specs.Status.{completeB}
-use Rattle.drive.specs.Time.{passBody, droppedOf, heldOf, passOf}
+use Rattle.rules.specs.Time.{passBody, droppedOf, heldOf, passOf}
 use Rattle.drive.proofs.Facts.{parts, whole}
 use Rattle.unit.specs.declared.Lines.{Lines}
 use Rattle.unit.specs.Sound.{soundB}

@@ -4,7 +4,7 @@ use mathlib.Core.Bool.{not}
 use lib.Dec.{leb, eqb}
 use Rattle.counts.specs.declared.Position.{Position}
 use Rattle.counts.specs.Choice.{if_then_else_}
-use Rattle.drive.specs.Cell.{placeOf}
+use Rattle.gates.specs.Cell.{placeOf}
 use Rattle.event.specs.declared.Answer.the-variants.{Unselected, Inhibited, PastTrack}
 use Rattle.unit.specs.declared.Lines.{Lines}
 use Rattle.decision.specs.declared.Change.the-variants as change
@@ -24,7 +24,7 @@ touching l x = record { lines = l; change = change.Nothing; deed = x }
 -- kind 7: "cell position at or past the selected drive's track length"; "A cell with neither writing nor reading is inhibited."
 unfoldable pub cellOf : Seen → Lines → Position → ℕ → Decision
 cellOf d l position byte =
-    if not (d .on) then sayOf l Unselected
+    if not (d .selected) then sayOf l Unselected
     else if leb (d .profile .shape .track .0) (position .0) then sayOf l PastTrack
     else if eqb (d .state .body .writing) 1 then touching l (deed.Write (cellPlace d position) byte)
     else if eqb (d .state .body .reading) 1 then touching l (deed.Read (cellPlace d position))

@@ -3,7 +3,7 @@ use Prim.Native.Nat.{ℕ}
 use mathlib.Core.Bool.{Bool, _&&_, not}
 use lib.Dec.{eqb}
 use Rattle.counts.specs.Choice.{if_then_else_}
-use Rattle.trailer.specs.General.{removable}
+use Rattle.profile.specs.General.{removable}
 use Rattle.pack.specs.declared.Pack.{Pack}
 use Rattle.drive.specs.declared.State.{State}
 use Rattle.drive.specs.State.{stateOf}
@@ -13,8 +13,7 @@ use Rattle.unit.specs.declared.Lines.{Lines}
 use Rattle.decision.specs.declared.Change.the-variants as change
 use Rattle.decision.specs.declared.Deed.the-variants as deed
 use Rattle.decision.specs.declared.Decision.{Decision}
-use Rattle.decision.specs.Decision.{fittedB}
-use Rattle.decision.specs.Decision.{sayOf}
+use Rattle.decision.specs.Decision.{fittedB, sayOf}
 
 -- "3 on a fixed drive"
 unfoldable pub fixedChange : Pack → ℕ → Bool

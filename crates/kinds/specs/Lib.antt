@@ -1,5 +1,3 @@
-pub mod Signals
-pub mod Select
 pub mod Passing
 pub mod Cell
 pub mod Condition

@@ -1,8 +1,7 @@
 -- Kind 6.
 use Rattle.counts.specs.declared.Micros.{Micros}
 use Rattle.counts.specs.Choice.{if_then_else_}
-use Rattle.drive.specs.Time as time
-use Rattle.event.specs.declared.Event.the-variants.{Pass}
+use Rattle.rules.specs.Time as time
 use Rattle.event.specs.declared.Answer.the-variants.{Taken}
 use Rattle.unit.specs.declared.Lines.{Lines}
 use Rattle.decision.specs.declared.Change.the-variants as change
@@ -16,5 +15,5 @@ unfoldable pub passOf : Seen → Lines → Micros → Decision
 passOf d l us = record {
   lines = l;
   change = change.Pass us;
-  deed = deed.Say (if d .on then outcomeAnswer (time.passOf us (d .state) .outcome) else Taken);
+  deed = deed.Say (if d .selected then outcomeAnswer (time.passOf us (d .state) .outcome) else Taken);
 }

@@ -4,8 +4,8 @@ use decision::Change;
 use decision::Decision;
 use decision::Deed;
 use decision::Seen;
-use drive::cell;
 use event::Answer;
+use gates::cell;
 use unit::Lines;
 ghost use mathlib.Core.Path.{_≡_};
 ghost use Rattle.kinds.specs.Cell.{cellPlace, cellOf};
@@ -21,7 +21,7 @@ fn place_of(d: Seen, position: Position) -> usize
 pub fn data_cell(d: Seen, l: Lines, position: Position, byte: u8) -> Decision
     ensures { λ r. ⌜ r ≡ cellOf d l position byte ⌝ }
 {
-    if !d.on {
+    if !d.selected {
         return decision::say(l, Answer::Unselected);
     }
     if position.0 >= d.profile.shape.track.0 {

@@ -14,7 +14,7 @@ ghost use Rattle.kinds.specs.Condition.{fixedChange, conditionAt};
 fn fixed_change(p: Pack, which: u8) -> bool
     ensures { λ r. ⌜ r ≡ fixedChange p which ⌝ }
 {
-    (which == 3) & !trailer::removable(p.profile.general)
+    (which == 3) & !profile::general::removable(p.profile.general)
 }
 
 // A condition at a slot that has this pack and this state.

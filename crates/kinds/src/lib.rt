@@ -1,6 +1,4 @@
-// What each kind of event decides at the drives that meet it.
+// What kinds 6, 7 and 8 decide at the drives that meet them.
 pub mod cell;
 pub mod condition;
 pub mod passing;
-pub mod select;
-pub mod signals;

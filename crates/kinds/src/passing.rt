@@ -4,8 +4,8 @@ use decision::Change;
 use decision::Decision;
 use decision::Deed;
 use decision::Seen;
-use drive::time;
 use event::Answer;
+use rules::time;
 use unit::Lines;
 ghost use mathlib.Core.Path.{_≡_};
 ghost use Rattle.kinds.specs.Passing.{passOf};
@@ -17,7 +17,7 @@ pub fn pass(d: Seen, l: Lines, us: Micros) -> Decision
     let s = d.state;
     let r = time::pass(s, us);
     let outcome = r.outcome;
-    if d.on {
+    if d.selected {
         return Decision {
             lines: l,
             change: Change::Pass(us),

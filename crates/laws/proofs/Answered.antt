@@ -12,8 +12,8 @@ use Rattle.pack.specs.declared.read.Answer.the-variants.{Whole}
 use Rattle.pack.specs.Read.{readAll}
 use Rattle.drive.specs.declared.Outcome.{Outcome}
 use Rattle.drive.specs.declared.Outcome.the-variants.{Done, Inhibited, Fault}
-use Rattle.drive.specs.Heads.{leftOf}
-use Rattle.drive.specs.Time as time
+use Rattle.rules.specs.Left.{leftOf}
+use Rattle.rules.specs.Time as time
 use Rattle.event.specs.declared.Answer.{Answer}
 use Rattle.event.specs.declared.Answer.the-variants as answer
 use Rattle.event.specs.Answer.{numberOf}
@@ -28,9 +28,9 @@ use Rattle.record.specs.Record.{lookOf}
 use Rattle.chain.specs.Levels.{ruleOf}
 use Rattle.decision.specs.Decision.{outcomeAnswer}
 use Rattle.decision.specs.Deeds.{saidOf}
-use Rattle.kinds.specs.Select.{eitherAnswer}
+use Rattle.select.specs.Select.{eitherAnswer}
 use Rattle.kinds.specs.Passing.{passOf}
-use Rattle.chain.specs.Fresh.{fitOf}
+use Rattle.fresh.specs.Fresh.{fitOf}
 use Rattle.chain.proofs.Walk.{enteredOf, Cases, walk}
 use Rattle.judge.specs.Judge.{allowedOf, decodedOf, judgedOf}
 use Rattle.board.specs.Step.{stepOf}
@@ -75,7 +75,7 @@ module _ (c : Chain) (file : List ℕ) where
     enters = λ slot off f m. ruled (enteredOf c slot .outcome);
     leaves = λ slot on n m. either (leftOf (d .state) .outcome) answer.Unselected (small answer.Unselected (omega arith));
     swaps = λ slot on f m. either (leftOf (d .state) .outcome) (outcomeAnswer (enteredOf c slot .outcome)) (ruled (enteredOf c slot .outcome));
-    passes = λ us. timed (d .on) (time.passOf us (d .state) .outcome);
+    passes = λ us. timed (d .selected) (time.passOf us (d .state) .outcome);
     past = λ position byte on. ((λ z. omega arith), (λ z. omega arith));
     writes = λ position byte on t w. small answer.Written (omega arith);
     reads = λ position byte on t r w. ((λ z. omega arith), (λ z. omega arith));

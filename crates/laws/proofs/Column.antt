@@ -11,14 +11,13 @@ use lib.ListN.{length, getD, set}
 use lib.Seq.{set-getD}
 use Rattle.counts.specs.declared.Position.{Position}
 use Rattle.counts.specs.Choice.{if_then_else_}
-use Rattle.counts.proofs.Choice.{by-test}
+use Rattle.counts.proofs.Choice.{by-test, either-way, never}
 use Rattle.drive.specs.declared.State.{State}
 use Rattle.drive.specs.declared.Outcome.{Outcome}
 use Rattle.drive.specs.declared.Outcome.the-variants.{Done, Inhibited, Fault}
-use Rattle.drive.specs.declared.Ruled.{Ruled}
 use Rattle.drive.specs.State.{blankState}
-use Rattle.drive.specs.Gates.{readFalls}
-use Rattle.drive.specs.Heads.{leftOf}
+use Rattle.gates.specs.Gates.{readFalls}
+use Rattle.rules.specs.Left.{leftOf}
 use Rattle.event.specs.declared.Answer.the-variants as answer
 use Rattle.event.specs.declared.Event.{Event}
 use Rattle.event.specs.declared.Event.the-variants.{Select, Heads, WriteGate, ReadGate, Data, Request, Pass, Cell, Condition}
@@ -32,7 +31,7 @@ use Rattle.record.specs.Record.{slotB, slotState, lookOf}
 use Rattle.chain.specs.Levels.{linesAfter, ruleOf}
 use Rattle.decision.specs.Decision.{outcomeAnswer}
 use Rattle.decision.specs.Deeds.{saidOf, fileAfter}
-use Rattle.kinds.specs.Select.{eitherAnswer}
+use Rattle.select.specs.Select.{eitherAnswer}
 use Rattle.kinds.specs.Passing.{passOf}
 use Rattle.kinds.specs.Cell.{cellPlace}
 use Rattle.chain.specs.Decide.{decideOf}
@@ -45,9 +44,6 @@ use Rattle.laws.specs.Column.{Leaves}
 use Rattle.chain.proofs.Walk.{Cases, walk}
 use Rattle.laws.proofs.Outcomes.{Unlatched, write-unlatched, read-unlatched, met-acts, left-acts, pass-acts, rises-acts, falls-acts, left-done}
 
-never : _≡_ {A = ℕ} 0 1 → ⊥
-never z = omega arith
-
 -- a state put where it stands
 put-back : (states : List State) (slot : ℕ) → putOf states slot (slotState states slot) ≡ states
 unfolding putOf slotState
@@ -57,16 +53,12 @@ put-back states slot = by (slotB slot)
     by true = set-getD states (slot - 1) blankState
     by false = refl
 
-either : (s : State) (t : Bool) (x y : Ruled) → Unlatched s x → Unlatched s y → Unlatched s (if t then x else y)
-either s true x y p q = p
-either s false x y p q = q
-
 -- where the rule that a signal meets is inhibited, the drive is as it was
 pub rule-unlatched : (d : Seen) (l : Lines) (e : Event) → Unlatched (d .state) (ruleOf d l e)
 rule-unlatched d l (Heads h) = λ i. absurd (met-acts _ _ _ i)
-rule-unlatched d l (WriteGate v) = either (d .state) (eqb v 1) _ _ (write-unlatched _ _ _) (λ i. absurd (never (cc)))
-rule-unlatched d l (ReadGate v) = either (d .state) (eqb v 1) _ _ (read-unlatched _ _ _) (λ i. absurd (never (cc)))
-rule-unlatched d l (Request v) = either (d .state) (eqb v 1) _ _ (λ i. absurd (rises-acts _ _ _ i)) (λ i. absurd (falls-acts _ _ i))
+rule-unlatched d l (WriteGate v) = either-way (Unlatched (d .state)) (eqb v 1) _ _ (write-unlatched _ _ _) (λ i. absurd (never (cc)))
+rule-unlatched d l (ReadGate v) = either-way (Unlatched (d .state)) (eqb v 1) _ _ (read-unlatched _ _ _) (λ i. absurd (never (cc)))
+rule-unlatched d l (Request v) = either-way (Unlatched (d .state)) (eqb v 1) _ _ (λ i. absurd (rises-acts _ _ _ i)) (λ i. absurd (falls-acts _ _ i))
 rule-unlatched d l (Data v) = λ i. refl
 rule-unlatched d l (Select slot) = λ i. refl
 rule-unlatched d l (Pass us) = λ i. refl
@@ -100,7 +92,7 @@ module _ (c : Chain) (file : List ℕ) (h : soundB c ≡ true) (n : length file 
   acting e Fault chain i = refl
   acting e Inhibited chain i = absurd (i refl)
 
-  left-alone : (slot : ℕ) (o : Outcome) (s : State) → (o ≡ Done → s ≡ readFalls (d .state)) → (o ≡ Inhibited → ⊥) → d .on ≡ true
+  left-alone : (slot : ℕ) (o : Outcome) (s : State) → (o ≡ Done → s ≡ readFalls (d .state)) → (o ≡ Inhibited → ⊥) → d .selected ≡ true
       → Leaves (Select slot) c file (eitherAnswer o answer.Unselected) (with (putOf (c .states) (l .select) s) (linesAfter (Select slot) l)) file
   left-alone slot Fault s e i on = refl
   left-alone slot Inhibited s e i on = absurd (i refl)
@@ -116,7 +108,7 @@ module _ (c : Chain) (file : List ℕ) (h : soundB c ≡ true) (n : length file 
   timed e true o chain i = acting e o chain i
   timed e false o chain i = refl
 
-  inside : (position : Position) → d .on ≡ true → position .0 < d .profile .shape .track .0
+  inside : (position : Position) → d .selected ≡ true → position .0 < d .profile .shape .track .0
       → (d .state .body .writing ≡ 1) ⊎ (d .state .body .reading ≡ 1) → cellPlace d position < length file
   inside position on t u = omega (arith, cell-in-file c position h on t u)
 
@@ -130,7 +122,7 @@ module _ (c : Chain) (file : List ℕ) (h : soundB c ≡ true) (n : length file 
     enters = λ slot off f m. acting (Select slot) _ _ (met-acts _ _ _);
     leaves = λ slot on f m. left-alone slot (leftOf (d .state) .outcome) (leftOf (d .state) .state) (left-done (d .state)) (left-acts (d .state)) on;
     swaps = λ slot on f m. swapped (Select slot) _ _ _ (left-acts (d .state)) (met-acts _ _ _);
-    passes = λ us. timed (Pass us) (d .on) _ _ (pass-acts us (d .state));
+    passes = λ us. timed (Pass us) (d .selected) _ _ (pass-acts us (d .state));
     past = λ position byte on. (refl, refl);
     writes = λ position byte on t w.
         (record { position = position; byte = byte; cell = refl; inside = inside position on t (inl w); holds = refl }, refl);

@@ -1,6 +1,6 @@
 -- A sound chain, slot by slot: what each fitted drive is known to be, and that a chain of such drives is sound.
 use mathlib.Core.Path.{_≡_, refl, sym, ap, _∙_}
-use mathlib.Core.Bool.{Bool, true, false, not, false≢true}
+use mathlib.Core.Bool.{Bool, true, false, not}
 use mathlib.Core.List.{List, [], _∷_}
 use Prim.Native.Nat.{ℕ, zero, suc, _+_, _-_, _≤_, _<_}
 use native.Mathlib.Omega.{arith}
@@ -9,11 +9,12 @@ use lib.Dec.{eqb}
 use lib.ListN.{length, getD, set, length-set}
 use lib.Seq.{getD-set-same, getD-set-other}
 use Rattle.counts.specs.Choice.{if_then_else_}
-use Rattle.counts.specs.Slots.{mapWith, allWith}
+use Rattle.counts.specs.Slots.{mapWith}
 use Rattle.counts.proofs.Choice.{by-test}
-use Rattle.counts.proofs.Tests.{both, join, within-both}
-use Rattle.trailer.specs.Valid.{validB}
-use Rattle.trailer.proofs.Facts.{ranges}
+use Rattle.counts.proofs.Slots.{map-at, all-at, all-from, no-shorter}
+use Rattle.counts.proofs.Tests.{join, within-both}
+use Rattle.profile.specs.Valid.{validB}
+use Rattle.profile.proofs.Facts.{ranges}
 use Rattle.pack.specs.declared.Pack.{Pack}
 use Rattle.pack.specs.Packs.{noPack}
 use Rattle.drive.specs.declared.State.{State}
@@ -25,7 +26,7 @@ use Rattle.record.specs.Record.{slotB, slotPack, slotState}
 use Rattle.decision.specs.Decision.{fittedB}
 use Rattle.record.specs.Apply.{putOf}
 use Rattle.soundness.specs.Sound.{driveB, soundB}
-use Rattle.soundness.proofs.Facts.{sound, all-at, InFile, placed-at, blank-drive, slot-of, pack-there, state-there}
+use Rattle.soundness.proofs.Facts.{sound, InFile, placed-at, blank-drive, slot-of, pack-there, state-there}
 
 -- a state put into a slot, looked at from a slot
 module _ (states : List State) (slot : ℕ) (s : State) where
@@ -54,38 +55,11 @@ module _ (states : List State) (slot : ℕ) (s : State) where
       by true = length-set states (slot - 1) s
       by false = refl
 
--- each state changed beside its pack, looked at from a slot
-module _ {A B : Type 0} (g : A → B → B) where
-  pub map-long : (xs : List A) (ys : List B) → length (mapWith g xs ys) ≡ length ys
-  map-long [] ys = refl
-  map-long (x ∷ xs) [] = refl
-  map-long (x ∷ xs) (y ∷ ys) = ap suc (map-long xs ys)
-
-  map-at : (xs : List A) (ys : List B) (i : ℕ) (u : A) (v : B) → i < length xs → i < length ys
-      → getD (mapWith g xs ys) i v ≡ g (getD xs i u) (getD ys i v)
-  map-at [] ys i u v m n = absurd (omega arith)
-  map-at (x ∷ xs) [] i u v m n = absurd (omega arith)
-  map-at (x ∷ xs) (y ∷ ys) zero u v m n = refl
-  map-at (x ∷ xs) (y ∷ ys) (suc i) u v m n = map-at xs ys i u v (omega arith) (omega arith)
-
 -- no pack stands past the end of the packs
 there : (packs : List Pack) (i : ℕ) → getD packs i noPack .fitted ≡ 1 → i < length packs
 there [] i f = absurd (omega arith)
 there (p ∷ packs) zero f = omega arith
 there (p ∷ packs) (suc i) f = omega (arith, there packs i f)
-
--- the second list is no shorter
-no-shorter : {A B : Type 0} (p : A → B → Bool) (xs : List A) (ys : List B) → allWith p xs ys ≡ true → length xs ≤ length ys
-no-shorter p [] ys h = omega arith
-no-shorter p (x ∷ xs) [] h = absurd (false≢true h)
-no-shorter p (x ∷ xs) (y ∷ ys) h = omega (arith, no-shorter p xs ys (both (p x y) (allWith p xs ys) h .1))
-
--- what holds at each place holds of all
-all-from : {A B : Type 0} (p : A → B → Bool) (z : A) (v : B) (xs : List A) (ys : List B) → length xs ≤ length ys
-    → ((i : ℕ) → p (getD xs i z) (getD ys i v) ≡ true) → allWith p xs ys ≡ true
-all-from p z v [] ys n h = refl
-all-from p z v (x ∷ xs) [] n h = absurd (omega arith)
-all-from p z v (x ∷ xs) (y ∷ ys) n h = join (p x y) (allWith p xs ys) (h zero) (all-from p z v xs ys (omega arith) (λ i. h (suc i)))
 
 module _ (c : Chain) (h : soundB c ≡ true) where
   pub enough : length (c .packs) ≤ length (c .states)
@@ -112,8 +86,11 @@ module _ (c : Chain) (h : soundB c ≡ true) where
     pub slot-valid : validB (p .profile) ≡ true
     slot-valid = in-file .valid
 
+    pub pack-room : k - 1 < length (c .packs)
+    pack-room = there (c .packs) (k - 1) listed
+
     pub slot-room : k - 1 < length (c .states)
-    slot-room = omega (arith, there (c .packs) (k - 1) listed, enough)
+    slot-room = omega (arith, pack-room, enough)
 
     as-unit : (l : Lines) (s : State) → driveB l p s ≡ unit.soundB (p .profile) l (eqb (l .select) k) s
     unfolding driveB
@@ -129,7 +106,7 @@ module _ (c : Chain) (h : soundB c ≡ true) where
     slot-mapped g =
         state-there k (mapWith g (c .packs) (c .states)) is-slot
         ∙ rw (pack-there k (c .packs) is-slot, state-there k (c .states) is-slot)
-        (map-at g (c .packs) (c .states) (k - 1) noPack blankState (there (c .packs) (k - 1) listed) slot-room)
+        (map-at g (c .packs) (c .states) (k - 1) noPack blankState pack-room slot-room)
 
   -- a pack that is fitted stands in a slot
   module _ (i : ℕ) (f : getD (c .packs) i noPack .fitted ≡ 1) where

@@ -19,8 +19,8 @@ use Rattle.drive.specs.declared.State.{State}
 use Rattle.drive.specs.declared.Outcome.{Outcome}
 use Rattle.drive.specs.declared.Outcome.the-variants.{Done, Inhibited, Fault}
 use Rattle.drive.specs.State.{blankState}
-use Rattle.drive.specs.Heads.{leftOf}
-use Rattle.drive.specs.Time as time
+use Rattle.rules.specs.Left.{leftOf}
+use Rattle.rules.specs.Time as time
 use Rattle.event.specs.declared.Answer.{Answer}
 use Rattle.event.specs.declared.Answer.the-variants as answer
 use Rattle.event.specs.Answer.{numberOf}
@@ -36,11 +36,10 @@ use Rattle.decision.specs.declared.Deed.the-variants.{Say, Read, Write}
 use Rattle.decision.specs.declared.Decision.{Decision}
 use Rattle.decision.specs.declared.Seen.{Seen}
 use Rattle.record.specs.Record.{slotPack, slotState, lookOf}
-use Rattle.decision.specs.Decision.{fittedB}
+use Rattle.decision.specs.Decision.{fittedB, outcomeAnswer}
 use Rattle.chain.specs.Levels.{linesAfter, movesB, ruleOf, askedB}
-use Rattle.decision.specs.Decision.{outcomeAnswer}
 use Rattle.decision.specs.Deeds.{saidOf}
-use Rattle.kinds.specs.Select.{eitherAnswer}
+use Rattle.select.specs.Select.{eitherAnswer}
 use Rattle.kinds.specs.Passing.{passOf}
 use Rattle.chain.specs.Decide.{decideOf}
 use Rattle.soundness.specs.Sound.{soundB}
@@ -51,9 +50,6 @@ use Rattle.laws.specs.Applies.{ifAny, timeMeets, meets, faultB, inhibite
 use Rattle.chain.proofs.Walk.{lineB, Cases, walk, enteredOf}
 use Rattle.laws.proofs.Outcomes.{left-acts, pass-acts}
 use Rattle.laws.proofs.Drives.{slot-sound, is-slot, listed, slot-room, state-in, fitted-in}
-
-never : _≡_ {A = ℕ} 0 1 → ⊥
-never z = omega arith
 
 and-false : (a : Bool) → (a && false) ≡ false
 and-false true = refl
@@ -152,7 +148,7 @@ module _ (c : Chain) (h : soundB c ≡ true) where
   unfolding firstApplies
   by-list e os t m u = rw (m, u)
 
-  on-after : (e : Event) → linesAfter e l .select ≡ l .select → d .on ≡ true → fittedB (slotPack (c .packs) (linesAfter e l .select)) ≡ true
+  on-after : (e : Event) → linesAfter e l .select ≡ l .select → d .selected ≡ true → fittedB (slotPack (c .packs) (linesAfter e l .select)) ≡ true
   unfolding lookOf
   on-after e q y = rw q y
 
@@ -176,11 +172,11 @@ module _ (c : Chain) (h : soundB c ≡ true) where
   -- a line that has its level: no rule is met
   still-meets : (e : Event) → lineB e ≡ true → movesB e l ≡ false → meets c e ≡ []
   still-meets (Select slot) b m = rw m
-  still-meets (Heads x) b m = rw (m, and-false (d .on))
-  still-meets (WriteGate v) b m = rw (m, and-false (d .on))
-  still-meets (ReadGate v) b m = rw (m, and-false (d .on))
+  still-meets (Heads x) b m = rw (m, and-false (d .selected))
+  still-meets (WriteGate v) b m = rw (m, and-false (d .selected))
+  still-meets (ReadGate v) b m = rw (m, and-false (d .selected))
   still-meets (Data v) b m = refl
-  still-meets (Request v) b m = rw (m, and-false (d .on))
+  still-meets (Request v) b m = rw (m, and-false (d .selected))
   still-meets (Pass us) b m = absurd (false≢true b)
   still-meets (Cell position byte) b m = absurd (false≢true b)
   still-meets (Condition slot which) b m = absurd (false≢true b)
@@ -190,7 +186,7 @@ module _ (c : Chain) (h : soundB c ≡ true) where
   neither false = refl
 
   -- no drive: no rule is met
-  alone-meets : (e : Event) → askedB e ≡ true → d .on ≡ false → fittedB (slotPack (c .packs) (linesAfter e l .select)) ≡ false → meets c e ≡ []
+  alone-meets : (e : Event) → askedB e ≡ true → d .selected ≡ false → fittedB (slotPack (c .packs) (linesAfter e l .select)) ≡ false → meets c e ≡ []
   alone-meets (Select slot) a n g = rw (n, g) (neither (movesB (Select slot) l))
   alone-meets (Heads x) a n g = rw n
   alone-meets (WriteGate v) a n g = rw n
@@ -202,15 +198,15 @@ module _ (c : Chain) (h : soundB c ≡ true) where
   alone-meets (Condition slot which) a n g = absurd (false≢true a)
 
   -- the selected drive meets the rule of its signal
-  signalled : (e : Event) → askedB e ≡ true → meets c e ≡ ifAny (d .on && movesB e l) (ruleOf d l e .outcome)
-      → d .on ≡ true → movesB e l ≡ true → linesAfter e l .select ≡ l .select → numberOf (outcomeAnswer (ruleOf d l e .outcome)) ≡ firstApplies c e
+  signalled : (e : Event) → askedB e ≡ true → meets c e ≡ ifAny (d .selected && movesB e l) (ruleOf d l e .outcome)
+      → d .selected ≡ true → movesB e l ≡ true → linesAfter e l .select ≡ l .select → numberOf (outcomeAnswer (ruleOf d l e .outcome)) ≡ firstApplies c e
   signalled e a g y m q =
       let o = ruleOf d l e .outcome in
-      let moved : (d .on && movesB e l) ≡ true = rw (y, m) in
+      let moved : (d .selected && movesB e l) ≡ true = rw (y, m) in
       let met : meets c e ≡ o ∷ [] = g ∙ ap (λ (t : Bool). ifAny t o) moved in
       one o ∙ by-list e (o ∷ []) false met (chosen e a (on-after e q y))
 
-  met-first : (e : Event) → d .on ≡ true → movesB e l ≡ true → linesAfter e l .select ≡ l .select
+  met-first : (e : Event) → d .selected ≡ true → movesB e l ≡ true → linesAfter e l .select ≡ l .select
       → numberOf (outcomeAnswer (ruleOf d l e .outcome)) ≡ firstApplies c e
   met-first (Heads x) y m q = signalled (Heads x) refl refl y m q
   met-first (WriteGate v) y m q = signalled (WriteGate v) refl refl y m q
@@ -230,18 +226,18 @@ module _ (c : Chain) (h : soundB c ≡ true) where
     abbrev entered : Outcome
     entered = enteredOf c slot .outcome
 
-    enters-first : d .on ≡ false → fittedB (slotPack (c .packs) slot) ≡ true → numberOf (outcomeAnswer entered) ≡ firstApplies c (Select slot)
+    enters-first : d .selected ≡ false → fittedB (slotPack (c .packs) slot) ≡ true → numberOf (outcomeAnswer entered) ≡ firstApplies c (Select slot)
     enters-first n f =
         let met : meets c (Select slot) ≡ entered ∷ [] = rw (m, n, f) in
         one entered ∙ by-list (Select slot) (entered ∷ []) false met (chosen (Select slot) refl f)
 
-    leaves-first : d .on ≡ true → fittedB (slotPack (c .packs) slot) ≡ false
+    leaves-first : d .selected ≡ true → fittedB (slotPack (c .packs) slot) ≡ false
         → numberOf (eitherAnswer left answer.Unselected) ≡ firstApplies c (Select slot)
     leaves-first y n =
         let met : meets c (Select slot) ≡ left ∷ [] = rw (m, y, n) in
         left-one left (left-acts (d .state)) ∙ by-list (Select slot) (left ∷ []) true met (none-chosen (Select slot) refl n)
 
-    swaps-first : d .on ≡ true → fittedB (slotPack (c .packs) slot) ≡ true
+    swaps-first : d .selected ≡ true → fittedB (slotPack (c .packs) slot) ≡ true
         → numberOf (eitherAnswer left (outcomeAnswer entered)) ≡ firstApplies c (Select slot)
     swaps-first y f =
         let met : meets c (Select slot) ≡ left ∷ entered ∷ [] = rw (m, y, f) in
@@ -274,12 +270,12 @@ module _ (c : Chain) (h : soundB c ≡ true) where
     unfolding firstApplies
     first-pass t q = rw (q, time-free us (c .packs) (c .states))
 
-    none-selected : d .on ≡ false → 0 ≡ firstApplies c (Pass us)
+    none-selected : d .selected ≡ false → 0 ≡ firstApplies c (Pass us)
     unfolding lookOf
     none-selected n =
         first-pass false (none-fails (λ i f e. absurd (false≢true (sym n ∙ ap (λ (k : ℕ). fittedB (slotPack (c .packs) k)) (sym e) ∙ fitted-in c h i f))))
 
-    on : d .on ≡ true → fittedB (slotPack (c .packs) (l .select)) ≡ true
+    on : d .selected ≡ true → fittedB (slotPack (c .packs) (l .select)) ≡ true
     unfolding lookOf
     on y = y
 
@@ -287,7 +283,7 @@ module _ (c : Chain) (h : soundB c ≡ true) where
     unfolding lookOf
     own-is k e = ap (λ (j : ℕ). time.passOf us (slotState (c .states) j) .outcome) e
 
-    selected-first : d .on ≡ true → (o : Outcome) → own ≡ o → numberOf (outcomeAnswer o) ≡ firstApplies c (Pass us)
+    selected-first : d .selected ≡ true → (o : Outcome) → own ≡ o → numberOf (outcomeAnswer o) ≡ firstApplies c (Pass us)
     selected-first y Inhibited q = absurd (pass-acts us (d .state) q)
     selected-first y Done q = first-pass false (none-fails (λ i f e. sym (seen i f) ∙ own-is (i + 1) e ∙ q))
     selected-first y Fault q =
@@ -296,7 +292,7 @@ module _ (c : Chain) (h : soundB c ≡ true) where
         first-pass true (time-fault us (c .packs) (c .states) (k - 1) (listed c h k (on y)) (slot-room c h k (on y))
         (ap (λ (s : State). time.passOf us s .outcome) (sym there) ∙ own-is k refl ∙ q))
 
-    passes-first : (t : Bool) → d .on ≡ t → numberOf (if t then outcomeAnswer own else answer.Taken) ≡ firstApplies c (Pass us)
+    passes-first : (t : Bool) → d .selected ≡ t → numberOf (if t then outcomeAnswer own else answer.Taken) ≡ firstApplies c (Pass us)
     passes-first true y = selected-first y own refl
     passes-first false n = none-selected n
 
@@ -310,7 +306,7 @@ module _ (c : Chain) (h : soundB c ≡ true) where
     enters = λ slot n f m s. enters-first slot m n f;
     leaves = λ slot y n m s. leaves-first slot m y n;
     swaps = λ slot y f m s. swaps-first slot m y f;
-    passes = λ us s. passes-first us (d .on) refl;
+    passes = λ us s. passes-first us (d .selected) refl;
     past = λ position byte y s. absurd (omega arith);
     writes = λ position byte y t w. tt;
     reads = λ position byte y t r w. tt;

@@ -11,11 +11,12 @@ use lib.ListN.{length, take, set, replicate, length-set, length-append}
 use Rattle.counts.specs.Choice.{if_then_else_}
 use Rattle.counts.specs.Bytes.{Bytes}
 use Rattle.counts.specs.Slots.{mapWith, allWith}
-use Rattle.counts.proofs.Tests.{each, all, join}
-use Rattle.trailer.specs.declared.Profile.{Profile}
-use Rattle.trailer.specs.Profile.{mediumOf}
-use Rattle.trailer.specs.Valid.{validB}
-use Rattle.trailer.proofs.Facts.{ranges}
+use Rattle.counts.proofs.Choice.{either-way, guarded, never}
+use Rattle.counts.proofs.Tests.{join}
+use Rattle.profile.specs.declared.Profile.{Profile}
+use Rattle.profile.specs.Profile.{mediumOf}
+use Rattle.profile.specs.Valid.{validB}
+use Rattle.profile.proofs.Facts.{ranges}
 use Rattle.pack.specs.declared.Pack.{Pack}
 use Rattle.pack.specs.declared.Refusal.the-variants.{Large}
 use Rattle.pack.specs.declared.read.Packs.{Packs}
@@ -26,19 +27,16 @@ use Rattle.pack.specs.declared.read.Answer.the-variants.{Whole, Refused}
 use Rattle.pack.specs.Packs.{longest, noPack, noPacks, fittedPack}
 use Rattle.pack.specs.Read.{lastPack, refusedAt, andInFront, readBack, readAll}
 use Rattle.pack.specs.File.{Contents, packOf, fileOf, firstSlot, Standing, slotsOf}
-use Rattle.pack.proofs.ReadLaid.{pack-length}
-use Rattle.pack.proofs.LaidRead.{Made, file-read}
+use Rattle.laying.proofs.ReadLaid.{pack-length}
+use Rattle.laying.proofs.LaidRead.{Made, file-read}
 use Rattle.drive.specs.declared.State.{State}
 use Rattle.drive.specs.State.{freshOf}
 use Rattle.unit.specs.Sound as unit
 use Rattle.keeps.proofs.Keeps.{fresh-sound}
 use Rattle.record.specs.declared.Chain.{Chain}
-use Rattle.chain.specs.Fresh.{lowLines, freshSlot, blankStates, endOf, fitOf}
+use Rattle.fresh.specs.Fresh.{lowLines, freshSlot, blankStates, endOf, fitOf}
 use Rattle.soundness.specs.Sound.{placedOf, placesB, driveB, soundB}
-use Rattle.soundness.proofs.Facts.{guarded, placed-at}
-
-never : _≡_ {A = ℕ} 0 1 → ⊥
-never z = omega arith
+use Rattle.soundness.proofs.Facts.{placed-at}
 
 -- the slots from a base on
 abbrev slotsFrom : ℕ → List Contents → ℕ → List Pack → List Pack
@@ -192,19 +190,15 @@ empty-last : (front : List ℕ → ℕ → List Pack → Packs) → ((l : List �
 empty-last front h l found (last.Refused why) ne = refl
 empty-last front h l found (last.Found s p) ne = h (take (s .0) l) (p .slot) (set found (p .slot - 1) (fittedPack s p)) ne
 
-by-test-empty : (t : Bool) (a b : Packs) → Empty a → Empty b → Empty (if t then a else b)
-by-test-empty true a b p q = p
-by-test-empty false a b p q = q
-
 empty-back : (k : ℕ) (l : List ℕ) (limit : ℕ) (found : List Pack) → Empty (readBack k l limit found)
 unfolding readBack
 empty-back zero l limit found = λ ne. absurd (ne refl)
 empty-back (suc k) l limit found =
-    by-test-empty (eqb (length l) 0) _ _ (λ ne. absurd (ne refl)) (empty-last (readBack k) (empty-back k) l found (lastPack l limit))
+    either-way Empty (eqb (length l) 0) _ _ (λ ne. absurd (ne refl)) (empty-last (readBack k) (empty-back k) l found (lastPack l limit))
 
 empty-all : (l : List ℕ) → Empty (readAll l)
 unfolding readAll
-empty-all l = by-test-empty (ltb longest (length l)) _ _ (λ ne. refl) (empty-back (suc (length l)) l 8 noPacks)
+empty-all l = either-way Empty (ltb longest (length l)) _ _ (λ ne. refl) (empty-back (suc (length l)) l 8 noPacks)
 
 -- the chain that no drive is on, over a file of no bytes
 abbrev pub emptyChain : Chain

@@ -2,7 +2,7 @@
 use mathlib.Core.Path.{_≡_, refl, sym, ap, _∙_}
 use mathlib.Core.Bool.{Bool, true, false, not, false≢true}
 use mathlib.Core.List.{List}
-use Prim.Native.Nat.{ℕ, _-_, _≤_}
+use Prim.Native.Nat.{ℕ, _≤_}
 use native.Mathlib.Omega.{arith}
 use borrow.Author.Tests.{leb-true, eqb-true, eqb-false, eq-eqb, ne-eqb, not-true}
 use lib.Dec.{eqb}
@@ -12,13 +12,14 @@ use Rattle.counts.specs.Choice.{if_then_else_}
 use Rattle.counts.specs.Slots.{mapWith}
 use Rattle.counts.proofs.Choice.{by-test}
 use Rattle.counts.proofs.Tests.{each}
-use Rattle.trailer.specs.declared.Profile.{Profile}
-use Rattle.trailer.specs.Valid.{validB}
+use Rattle.counts.proofs.Slots.{map-long}
+use Rattle.profile.specs.declared.Profile.{Profile}
+use Rattle.profile.specs.Valid.{validB}
 use Rattle.drive.specs.declared.State.{State}
 use Rattle.drive.specs.State.{stateOf}
 use Rattle.drive.specs.Faults as faults
-use Rattle.drive.specs.Gates.{writeRises, readRises, writeFalls, readFalls}
-use Rattle.drive.specs.Heads.{leftOf}
+use Rattle.gates.specs.Gates.{writeRises, readRises, writeFalls, readFalls}
+use Rattle.rules.specs.Left.{leftOf}
 use Rattle.event.specs.declared.Decoded.{Decoded}
 use Rattle.event.specs.declared.Decoded.the-variants.{Is, Unknown, Range}
 use Rattle.event.specs.Decode.{decodeOf}
@@ -28,24 +29,23 @@ use Rattle.event.specs.declared.Event.the-variants.{Select, Heads, WriteGate, R
 use Rattle.unit.specs.declared.Lines.{Lines}
 use Rattle.unit.specs.Request.{requestRises, requestFalls}
 use Rattle.unit.specs.Sound as unit
+use Rattle.keeps.proofs.Gates.{flag}
 use Rattle.keeps.proofs.Keeps as keeps
 use Rattle.record.specs.declared.Chain.{Chain}
 use Rattle.decision.specs.declared.Decision.{Decision}
 use Rattle.record.specs.Record.{slotPack, slotState, lookOf}
-use Rattle.decision.specs.Decision.{fittedB}
+use Rattle.decision.specs.Decision.{fittedB, doneOf, sayOf}
 use Rattle.chain.specs.Levels.{linesAfter, movesB, ruleOf}
-use Rattle.decision.specs.Decision.{doneOf}
-use Rattle.kinds.specs.Signals.{with-select, with-writegate, with-readgate, with-command, with-request}
+use Rattle.unit.specs.Lines.{with-select, with-writegate, with-readgate, with-command, with-request}
 use Rattle.kinds.specs.Passing.{passOf}
 use Rattle.chain.specs.Decide.{decideOf}
 use Rattle.record.specs.Apply.{putOf, passSlot, changedOf, applied}
 use Rattle.soundness.specs.Sound.{soundB}
 use Rattle.soundness.proofs.Facts.{sound, slot-of}
-use Rattle.decision.specs.Decision.{sayOf}
 use Rattle.judge.specs.Judge.{allowedOf, decodedOf, judgedOf}
 use Rattle.board.specs.Step.{stepOf}
 use Rattle.chain.proofs.Walk.{Cases, walk, enteredOf}
-use Rattle.laws.proofs.Drives.{put-same, put-other, put-long, enough, slot-valid, slot-room, slot-sound, slot-mapped, map-long, slots-sound}
+use Rattle.laws.proofs.Drives.{put-same, put-other, put-long, enough, slot-valid, slot-room, slot-sound, slot-mapped, slots-sound}
 use Rattle.laws.proofs.Ranges.{InRange, decoded-range, lines-kept}
 
 -- no drive looks at the data line but on a rise of request
@@ -117,9 +117,6 @@ module _ (c : Chain) (h : soundB c ≡ true) where
     lines = sound c h .lines
 
     -- a level of a line that moves is the other one
-    fallen : (a : ℕ) → a ≤ 1 → (a ≡ 1 → ⊥) → a ≡ 0
-    fallen a most ne = omega arith
-
     risen : (now level : ℕ) → now ≤ 1 → level ≡ 1 → not (eqb now level) ≡ true → now ≡ 0
     risen now level most e m = omega (arith, eqb-false now level (not-true _ m))
 
@@ -131,14 +128,14 @@ module _ (c : Chain) (h : soundB c ≡ true) where
     write-kept a r m true q =
         let e = each (unit.lineTests l) lines in
         rw (eqb-true a 1 q) (keeps.write-rises-keeps p v l s lines (risen (l .writegate) a (leb-true _ _ (e .1 .1 .0)) (eqb-true a 1 q) m) (here f))
-    write-kept a r m false q = rw (fallen a r (eqb-false a 1 q)) (keeps.write-falls-keeps p v l s (here f))
+    write-kept a r m false q = rw (flag a r (eqb-false a 1 q)) (keeps.write-falls-keeps p v l s (here f))
 
     read-kept : (a : ℕ) → a ≤ 1 → movesB (ReadGate a) l ≡ true → (t : Bool) → eqb a 1 ≡ t
         → unit.soundB p (with-readgate a l) true ((if t then readRises p (l .writegate) s else doneOf (readFalls s)) .state) ≡ true
     read-kept a r m true q =
         let e = each (unit.lineTests l) lines in
         rw (eqb-true a 1 q) (keeps.read-rises-keeps p v l s lines (risen (l .readgate) a (leb-true _ _ (e .1 .1 .1 .0)) (eqb-true a 1 q) m) (here f))
-    read-kept a r m false q = rw (fallen a r (eqb-false a 1 q)) (keeps.read-falls-keeps p v l s (here f))
+    read-kept a r m false q = rw (flag a r (eqb-false a 1 q)) (keeps.read-falls-keeps p v l s (here f))
 
     request-kept : (a : ℕ) → a ≤ 1 → movesB (Request a) l ≡ true → (t : Bool) → eqb a 1 ≡ t
         → unit.soundB p (with-request a l) true ((if t then requestRises p l s else requestFalls p s) .state) ≡ true
@@ -147,7 +144,7 @@ module _ (c : Chain) (h : soundB c ≡ true) where
         rw (eqb-true a 1 q) (keeps.rises-keeps p v l s lines (risen (l .request) a (leb-true _ _ (e .1 .1 .1 .1 .1 .0)) (eqb-true a 1 q) m) (here f))
     request-kept a r m false q =
         let e = each (unit.lineTests l) lines in
-        let low = fallen a r (eqb-false a 1 q) in
+        let low = flag a r (eqb-false a 1 q) in
         rw low (keeps.falls-keeps p v l s (was-high (l .request) a (leb-true _ _ (e .1 .1 .1 .1 .1 .0)) low m) (here f))
 
     rule-kept : (e : Event) → InRange e → movesB e l ≡ true → linesAfter e l .select ≡ l .select
@@ -167,11 +164,11 @@ module _ (c : Chain) (h : soundB c ≡ true) where
   apart : (k x : ℕ) → Fitted k → fittedB (slotPack (c .packs) x) ≡ false → k ≡ x → ⊥
   apart k x f n e = false≢true (sym n ∙ ap (λ (i : ℕ). fittedB (slotPack (c .packs) i)) (sym e) ∙ f)
 
-  off : lookOf c .on ≡ false → fittedB (slotPack (c .packs) (l .select)) ≡ false
+  off : lookOf c .selected ≡ false → fittedB (slotPack (c .packs) (l .select)) ≡ false
   unfolding lookOf
   off n = n
 
-  on : lookOf c .on ≡ true → Fitted (l .select)
+  on : lookOf c .selected ≡ true → Fitted (l .select)
   unfolding lookOf
   on y = y
 
@@ -209,7 +206,7 @@ module _ (c : Chain) (h : soundB c ≡ true) where
   P e x = InRange e → soundB (applied c x) ≡ true
 
   -- no drive is selected before or after: only lines change
-  unselected : (e : Event) → InRange e → lookOf c .on ≡ false → fittedB (slotPack (c .packs) (linesAfter e l .select)) ≡ false
+  unselected : (e : Event) → InRange e → lookOf c .selected ≡ false → fittedB (slotPack (c .packs) (linesAfter e l .select)) ≡ false
       → soundB (with (c .states) (linesAfter e l)) ≡ true
   unselected e r n a =
       slots-sound c h (linesAfter e l) (c .states) (lines-kept e l r (sound c h .lines)) (enough c h)
@@ -220,7 +217,7 @@ module _ (c : Chain) (h : soundB c ≡ true) where
       slots-sound c h (with-command a l) (c .states) (lines-kept (Data a) l r (sound c h .lines)) (enough c h)
       (λ k f. data-unlooked _ l a (eqb (l .select) k) (of k) (slot-sound c h k f))
 
-  met-kept : (e : Event) → InRange e → lookOf c .on ≡ true → movesB e l ≡ true → linesAfter e l .select ≡ l .select
+  met-kept : (e : Event) → InRange e → lookOf c .selected ≡ true → movesB e l ≡ true → linesAfter e l .select ≡ l .select
       → soundB (with (putOf (c .states) (linesAfter e l .select) (ruleOf (lookOf c) l e .state)) (linesAfter e l)) ≡ true
   met-kept e r y m q =
       let s = ruleOf (lookOf c) l e .state in

@@ -2,12 +2,12 @@
 use mathlib.Core.Path.{_≡_, refl}
 use mathlib.Core.Bool.{Bool, true, false, _||_, not}
 use Prim.Native.Nat.{ℕ}
-use native.Mathlib.Omega.{arith}
 use lib.Dec.{eqb}
 use Rattle.counts.specs.declared.Head.{Head}
 use Rattle.counts.specs.declared.Micros.{Micros}
 use Rattle.counts.specs.Choice.{if_then_else_}
-use Rattle.trailer.specs.declared.Profile.{Profile}
+use Rattle.counts.proofs.Choice.{either-way, never}
+use Rattle.profile.specs.declared.Profile.{Profile}
 use Rattle.handshake.specs.declared.Edge.{Edge}
 use Rattle.handshake.specs.declared.Edge.the-variants.{Keep, Drop, Carry}
 use Rattle.handshake.specs.Transfer.{openB}
@@ -18,9 +18,10 @@ use Rattle.drive.specs.declared.Outcome.the-variants.{Done, Inhibited, Fault}
 use Rattle.drive.specs.declared.Ruled.{Ruled}
 use Rattle.drive.specs.State.{ruled}
 use Rattle.drive.specs.Status.{attentionB, calmB}
-use Rattle.drive.specs.Gates.{usableB, writeRises, readRises, readFalls}
-use Rattle.drive.specs.Heads.{headChange, metOf, leftOf}
-use Rattle.drive.specs.Time.{passBody, heldOf, passOf}
+use Rattle.gates.specs.Gates.{usableB, writeRises, readRises, readFalls}
+use Rattle.rules.specs.Heads.{headChange, metOf}
+use Rattle.rules.specs.Left.{leftOf}
+use Rattle.rules.specs.Time.{passBody, heldOf, passOf}
 use Rattle.command.specs.declared.Effect.{Effect}
 use Rattle.command.specs.declared.Effect.the-variants.{Fails, Status, Configuration, Does}
 use Rattle.command.specs.Effect.{effectOf}
@@ -29,9 +30,6 @@ use Rattle.unit.specs.declared.Lines.{Lines}
 use Rattle.unit.specs.Request as request
 use Rattle.unit.specs.Request.{gatedB, requestRises, requestFalls}
 
-never : _≡_ {A = ℕ} 0 1 → ⊥
-never z = omega arith
-
 -- "inhibited, nothing latched": the drive is as it was
 abbrev pub Unlatched : State → Ruled → Type 0
 Unlatched s r = r .outcome ≡ Inhibited → r .state ≡ s
@@ -39,14 +37,6 @@ Unlatched s r = r .outcome ≡ Inhibited → r .state ≡ s
 -- a rule that inhibits nothing
 abbrev pub Acts : Ruled → Type 0
 Acts r = r .outcome ≡ Inhibited → ⊥
-
-if-unlatched : (s : State) (t : Bool) (x y : Ruled) → Unlatched s x → Unlatched s y → Unlatched s (if t then x else y)
-if-unlatched s true x y p q = p
-if-unlatched s false x y p q = q
-
-if-acts : (t : Bool) (x y : Ruled) → Acts x → Acts y → Acts (if t then x else y)
-if-acts true x y p q = p
-if-acts false x y p q = q
 
 done : Done ≡ Inhibited → ⊥
 done h = never (cc)
@@ -66,23 +56,23 @@ inhibited s h = refl
 pub write-unlatched : (p : Profile) (gate : ℕ) (s : State) → Unlatched s (writeRises p gate s)
 unfolding writeRises
 write-unlatched p gate s =
-    if-unlatched s (eqb gate 1) _ _ (faulted s _) (if-unlatched s (attentionB (s .body)) _ _ (inhibited s)
-    (if-unlatched s (not (eqb (s .body .arm .offset) 0)) _ _ (faulted s _)
-    (if-unlatched s (not (usableB p s)) _ _ (faulted s _)
-    (if-unlatched s (eqb (p .protected) 1) _ _ (faulted s _) (carried s _)))))
+    either-way (Unlatched s) (eqb gate 1) _ _ (faulted s _) (either-way (Unlatched s) (attentionB (s .body)) _ _ (inhibited s)
+    (either-way (Unlatched s) (not (eqb (s .body .arm .offset) 0)) _ _ (faulted s _)
+    (either-way (Unlatched s) (not (usableB p s)) _ _ (faulted s _)
+    (either-way (Unlatched s) (eqb (p .protected) 1) _ _ (faulted s _) (carried s _)))))
 
 pub read-unlatched : (p : Profile) (gate : ℕ) (s : State) → Unlatched s (readRises p gate s)
 unfolding readRises
 read-unlatched p gate s =
-    if-unlatched s (eqb gate 1) _ _ (faulted s _) (if-unlatched s (not (usableB p s)) _ _ (inhibited s) (carried s _))
+    either-way (Unlatched s) (eqb gate 1) _ _ (faulted s _) (either-way (Unlatched s) (not (usableB p s)) _ _ (inhibited s) (carried s _))
 
 pub met-acts : (p : Profile) (h : Head) (s : State) → Acts (metOf p h s)
 unfolding metOf headChange
-met-acts p h s = if-acts (eqb (s .body .head .0) (h .0)) _ _ done (if-acts (eqb (s .body .writing) 1) _ _ fault done)
+met-acts p h s = either-way Acts (eqb (s .body .head .0) (h .0)) _ _ done (either-way Acts (eqb (s .body .writing) 1) _ _ fault done)
 
 pub left-acts : (s : State) → Acts (leftOf s)
 unfolding leftOf
-left-acts s = if-acts (openB (s .transfer) || eqb (s .body .writing) 1) _ _ fault done
+left-acts s = either-way Acts (openB (s .transfer) || eqb (s .body .writing) 1) _ _ fault done
 
 held-acts : (b : Body) (e : Edge) → Acts (heldOf b e)
 held-acts b (Keep t) h = done h
@@ -100,7 +90,7 @@ effect-acts p b Status h = done h
 effect-acts p b (Configuration modifier) h = done h
 effect-acts p b (Does act) h = done h
 
-edge-acts : (p : Profile) (b : Body) (e : Edge) → Acts (request.metOf p b e)
+edge-acts : (p : Profile) (b : Body) (e : Edge) → Acts (request.edgeOf p b e)
 unfolding carryOf
 edge-acts p b (Keep t) h = done h
 edge-acts p b Drop h = fault h

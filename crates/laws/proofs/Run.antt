@@ -12,14 +12,15 @@ use Rattle.decision.specs.declared.Deed.{Deed}
 use Rattle.decision.specs.declared.Deed.the-variants.{Say, Read, Write}
 use Rattle.decision.specs.Deeds as deeds
 use Rattle.record.specs.Apply.{applied}
-use Rattle.chain.specs.Fresh.{fitOf}
+use Rattle.fresh.specs.Fresh.{fitOf}
 use Rattle.judge.specs.Judge.{judgedOf}
 use Rattle.board.specs.Step.{stepOf, stepFile}
 use Rattle.laws.specs.Run.{Numbers, chainAfter, fileAfter, SoundOver}
 use Rattle.laws.proofs.Fitted.{whole-sound, fitted-length}
 use Rattle.laws.proofs.Kept.{sound-kept}
 
-deed-long : (x : Deed) (file : List ℕ) → length (deeds.fileAfter x file) ≡ length file
+-- a deed leaves the file as long as it was
+pub deed-long : (x : Deed) (file : List ℕ) → length (deeds.fileAfter x file) ≡ length file
 deed-long (Say a) file = refl
 deed-long (Read i) file = refl
 deed-long (Write i byte) file = length-set file i byte

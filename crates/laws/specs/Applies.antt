@@ -9,8 +9,9 @@ use Rattle.pack.specs.declared.Pack.{Pack}
 use Rattle.drive.specs.declared.State.{State}
 use Rattle.drive.specs.declared.Outcome.{Outcome}
 use Rattle.drive.specs.declared.Outcome.the-variants.{Done, Inhibited, Fault}
-use Rattle.drive.specs.Heads.{metOf, leftOf}
-use Rattle.drive.specs.Time as time
+use Rattle.rules.specs.Heads.{metOf}
+use Rattle.rules.specs.Left.{leftOf}
+use Rattle.rules.specs.Time as time
 use Rattle.event.specs.declared.Event.{Event}
 use Rattle.event.specs.declared.Event.the-variants.{Select, Heads, WriteGate, ReadGate, Data, Request, Pass, Cell, Condition}
 use Rattle.record.specs.declared.Chain.{Chain}
@@ -24,12 +25,12 @@ ifAny there o = if there then o ∷ [] else []
 -- "Select changes: the drive left ..", "The drive entered .."
 abbrev pub selectMeets : Chain → ℕ → List Outcome
 selectMeets c slot =
-    ifAny (lookOf c .on) (leftOf (lookOf c .state) .outcome)
+    ifAny (lookOf c .selected) (leftOf (lookOf c .state) .outcome)
     ++ ifAny (fittedB (slotPack (c .packs) slot)) (metOf (slotPack (c .packs) slot .profile) (c .lines .heads) (slotState (c .states) slot) .outcome)
 
 -- the selected drive, where a line moves
 abbrev pub signalMeets : Chain → Event → List Outcome
-signalMeets c e = ifAny (lookOf c .on && movesB e (c .lines)) (ruleOf (lookOf c) (c .lines) e .outcome)
+signalMeets c e = ifAny (lookOf c .selected && movesB e (c .lines)) (ruleOf (lookOf c) (c .lines) e .outcome)
 
 -- "Microseconds passing .. every drive": each that is fitted
 abbrev pub timeMeets : Micros → List Pack → List State → List Outcome
@@ -50,7 +51,7 @@ meets c (ReadGate level) = signalMeets c (ReadGate level)
 meets c (Data level) = []
 meets c (Request level) = signalMeets c (Request level)
 meets c (Pass us) = timeMeets us (c .packs) (c .states)
-meets c (Cell position byte) = ifAny (lookOf c .on && idleB (lookOf c .state)) Inhibited
+meets c (Cell position byte) = ifAny (lookOf c .selected && idleB (lookOf c .state)) Inhibited
 meets c (Condition slot which) = []
 
 -- "5 | a fault rule applied, even if its bit stood already"

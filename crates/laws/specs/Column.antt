@@ -5,7 +5,7 @@ use mathlib.Core.List.{List, [], _∷_}
 use lib.ListN.{length, getD, set}
 use Rattle.counts.specs.declared.Position.{Position}
 use Rattle.counts.specs.Choice.{if_then_else_}
-use Rattle.drive.specs.Gates.{readFalls}
+use Rattle.gates.specs.Gates.{readFalls}
 use Rattle.event.specs.declared.Event.{Event}
 use Rattle.event.specs.declared.Event.the-variants.{Cell}
 use Rattle.event.specs.declared.Answer.{Answer}
@@ -40,7 +40,7 @@ linesTaken e c = record { packs = c .packs; states = c .states; lines = linesAft
 abbrev pub leftBehind : Event → Chain → Chain
 leftBehind e c = record {
   packs = c .packs;
-  states = if lookOf c .on then putOf (c .states) (c .lines .select) (readFalls (lookOf c .state)) else c .states;
+  states = if lookOf c .selected then putOf (c .states) (c .lines .select) (readFalls (lookOf c .state)) else c .states;
   lines = linesAfter e (c .lines);
   length = c .length;
 }

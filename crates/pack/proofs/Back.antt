@@ -12,11 +12,12 @@ use lib.Seq.{length-take-le}
 use Rattle.counts.specs.declared.Place.{Place}
 use Rattle.counts.specs.Choice.{if_then_else_}
 use Rattle.counts.specs.Bytes.{one, four}
+use Rattle.counts.proofs.Choice.{never}
 use Rattle.counts.proofs.Tests.{both}
-use Rattle.trailer.specs.declared.Profile.{Profile}
-use Rattle.trailer.specs.Profile.{mediumOf}
-use Rattle.trailer.specs.Fields.{profileOf}
-use Rattle.trailer.specs.Valid.{validB, zerosB}
+use Rattle.profile.specs.declared.Profile.{Profile}
+use Rattle.profile.specs.Profile.{mediumOf}
+use Rattle.trailer.specs.Fields.{profileOf, zerosB}
+use Rattle.profile.specs.Valid.{validB}
 use Rattle.pack.specs.declared.Pack.{Pack}
 use Rattle.pack.specs.declared.Refusal.{Refusal}
 use Rattle.pack.specs.declared.Refusal.the-variants.{Short, Distance, Form, Field, Size, Order}
@@ -26,9 +27,6 @@ use Rattle.pack.specs.declared.read.Last.the-variants.{Found, Refused}
 use Rattle.pack.specs.declared.read.Answer.the-variants as answer
 use Rattle.pack.specs.Packs.{fittedPack}
 use Rattle.pack.specs.Read.{verdictOf, checked, lastPack, refusedAt, readBack}
-
-never : _≡_ {A = ℕ} 0 1 → ⊥
-never z = omega arith
 
 -- a pack is found where the test did not refuse
 passed : (b : Bool) (why : Refusal) (y : Last) {s : Place} {p : Profile}

@@ -4,10 +4,10 @@ use mathlib.Core.Bool.{Bool, _&&_}
 use mathlib.Core.List.{List}
 use Prim.Native.Nat.{ℕ}
 use Rattle.counts.specs.Bytes.{one, four}
-use Rattle.trailer.specs.declared.Profile.{Profile}
-use Rattle.trailer.specs.Profile.{mediumOf}
-use Rattle.trailer.specs.Fields.{profileOf}
-use Rattle.trailer.specs.Valid.{validB, zerosB}
+use Rattle.profile.specs.declared.Profile.{Profile}
+use Rattle.profile.specs.Profile.{mediumOf}
+use Rattle.trailer.specs.Fields.{profileOf, zerosB}
+use Rattle.profile.specs.Valid.{validB}
 use Rattle.pack.specs.declared.read.Last.{Last}
 use Rattle.pack.specs.Read.{verdictOf, checked}
 

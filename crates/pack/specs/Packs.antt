@@ -3,8 +3,8 @@ use Prim.Native.Nat.{ℕ}
 use mathlib.Core.List.{List}
 use lib.ListN.{replicate}
 use Rattle.counts.specs.declared.Place.{Place}
-use Rattle.trailer.specs.declared.Profile.{Profile}
-use Rattle.trailer.specs.Profile.{blankProfile}
+use Rattle.profile.specs.declared.Profile.{Profile}
+use Rattle.profile.specs.Profile.{blankProfile}
 use Rattle.pack.specs.declared.Pack.{Pack}
 
 -- "2,147,483,647 bytes"

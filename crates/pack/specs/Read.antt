@@ -6,10 +6,11 @@ use lib.ListN.{length, take, drop, set}
 use lib.Dec.{ltb, leb, eqb}
 use Rattle.counts.specs.Choice.{if_then_else_}
 use Rattle.counts.specs.Bytes.{one, four}
-use Rattle.trailer.specs.declared.Profile.{Profile}
-use Rattle.trailer.specs.Profile.{trailerLength, formOne, mediumOf}
-use Rattle.trailer.specs.Fields.{profileOf}
-use Rattle.trailer.specs.Valid.{validB, zerosB}
+use Rattle.profile.specs.declared.Profile.{Profile}
+use Rattle.profile.specs.Profile.{mediumOf}
+use Rattle.trailer.specs.Form.{trailerLength, formOne}
+use Rattle.trailer.specs.Fields.{profileOf, zerosB}
+use Rattle.profile.specs.Valid.{validB}
 use Rattle.pack.specs.declared.Pack.{Pack}
 use Rattle.pack.specs.declared.Refusal.{Refusal}
 use Rattle.pack.specs.declared.Refusal.the-variants.{Short, Distance, Form, Field, Size, Order, Large}
@@ -19,15 +20,15 @@ use Rattle.pack.specs.declared.read.Last.the-variants.{Found, Refused}
 use Rattle.pack.specs.declared.read.Answer.the-variants as answer
 use Rattle.pack.specs.Packs.{longest, noPacks, fittedPack}
 
--- "then per pack 30 ..; 31 ..; 32 ..; 33 ..; 34 ..; 35 ..", behind 30: the pack ends at n, the one behind it has the slot limit
+-- "then per pack", behind 30: the pack ends at n, the one behind it has the slot limit
 unfoldable pub verdictOf : ℕ → ℕ → ℕ → ℕ → Bool → ℕ → Profile → Last
 verdictOf n limit distance form good medium p =
-    if ltb distance trailerLength then Refused Distance
-    else if ltb n distance then Refused Distance
-    else if not (eqb form formOne) then Refused Form
-    else if not good then Refused Field
-    else if not (eqb distance (medium + trailerLength)) then Refused Size
-    else if leb limit (p .slot) then Refused Order
+    if ltb distance trailerLength then Refused Distance  -- "31 distance below 44"
+    else if ltb n distance then Refused Distance  -- "or more than is left"
+    else if not (eqb form formOne) then Refused Form  -- "32 other form"
+    else if not good then Refused Field  -- "33 a field"
+    else if not (eqb distance (medium + trailerLength)) then Refused Size  -- "34 distance isn't cylinders × heads × track length + 44"
+    else if leb limit (p .slot) then Refused Order  -- "35 slots not rising through the file"
     else Found (record { 0 = n - distance }) p
 
 unfoldable pub checked : List ℕ → ℕ → ℕ → Last
@@ -36,7 +37,7 @@ checked t n limit =
 
 unfoldable pub lastPack : List ℕ → ℕ → Last
 lastPack l limit =
-    if ltb (length l) trailerLength then Refused Short
+    if ltb (length l) trailerLength then Refused Short  -- "30 fewer than 44 bytes left"
     else checked (drop (length l - trailerLength) l) (length l) limit
 
 -- a refused file has no packs

@@ -4,8 +4,6 @@ use Rattle.pack.specs.declared.Refusal.{Refusal}
 use Rattle.pack.specs.declared.Refusal.the-variants.{Short, Distance, Form, Field, Size, Order, Large, Room}
 use Rattle.pack.specs.declared.read.Answer.{Answer}
 use Rattle.pack.specs.declared.read.Answer.the-variants as answer
-use Rattle.pack.specs.declared.lay.Laid.{Laid}
-use Rattle.pack.specs.declared.lay.Laid.the-variants as laid
 
 abbrev pub numberOf : Refusal → ℕ
 numberOf Short = 30  -- "fewer than 44 bytes left"
@@ -25,7 +23,3 @@ readNumber (answer.Refused why place) = numberOf why
 abbrev pub readPlace : Answer → ℕ
 readPlace answer.Whole = 0
 readPlace (answer.Refused why place) = place .0
-
-abbrev pub laidNumber : Laid → ℕ
-laidNumber laid.Done = 0
-laidNumber (laid.Refused why) = numberOf why

@@ -1,9 +1,8 @@
 // The pack file: zero to seven packs, each a medium and then its trailer.
-pub mod lay;
 pub mod read;
 
 use counts::Place;
-use trailer::Profile;
+use profile::Profile;
 ghost use mathlib.Core.Path.{_≡_};
 ghost use Rattle.pack.specs.Refusal.{numberOf};
 ghost use Rattle.pack.specs.Packs.{noPack};

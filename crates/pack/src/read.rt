@@ -2,7 +2,7 @@
 use crate::Pack;
 use crate::Refusal;
 use counts::Place;
-use trailer::Profile;
+use profile::Profile;
 ghost use mathlib.Core.Path.{_≡_};
 ghost use Prim.Native.Nat.{ℕ, _-_, _≤_, _<_};
 ghost use lib.ListN.{length, set};
@@ -53,19 +53,19 @@ fn verdict(n: u32, limit: u8, d: u32, form: u8, good: bool, medium: usize, p: Pr
     requires { ⌜ medium < 1099511627776 ⌝ }
     ensures { λ r. ⌜ r ≡ verdictOf n limit d form good medium p ⌝ }
 {
-    if d < 44 {
+    if (d as usize) < trailer::LENGTH {
         return Last::Refused(Refusal::Distance);
     }
     if n < d {
         return Last::Refused(Refusal::Distance);
     }
-    if form != Profile::FORM {
+    if form != trailer::FORM {
         return Last::Refused(Refusal::Form);
     }
     if !good {
         return Last::Refused(Refusal::Field);
     }
-    if d as usize != medium + Profile::TRAILER {
+    if d as usize != medium + trailer::LENGTH {
         return Last::Refused(Refusal::Size);
     }
     if limit <= p.slot {
@@ -82,8 +82,8 @@ fn check(t: &[u8], n: u32, limit: u8) -> Last
     let form = trailer::form_of(t);
     let p = trailer::profile_of(t);
     let shape = p.shape;
-    let good = trailer::zeros(t) & trailer::valid(p);
-    verdict(n, limit, d, form, good, trailer::medium(shape), p)
+    let good = trailer::zeros(t) & profile::valid::valid(p);
+    verdict(n, limit, d, form, good, profile::medium(shape), p)
 }
 
 fn last_pack(file: &[u8], limit: u8) -> Last
@@ -91,10 +91,10 @@ fn last_pack(file: &[u8], limit: u8) -> Last
     ensures { λ r. ⌜ r ≡ lastPack (now (file .entry)) limit ⌝ }
 {
     let n = file.len();
-    if n < Profile::TRAILER {
+    if n < trailer::LENGTH {
         return Last::Refused(Refusal::Short);
     }
-    check(&file[n - Profile::TRAILER..], n as u32, limit)
+    check(&file[n - trailer::LENGTH..], n as u32, limit)
 }
 
 fn empty() -> [Pack; 7]

@@ -4,16 +4,15 @@
 use counts::Cylinder;
 use counts::Head;
 use counts::Position;
+use laying::Laid;
 use libc::STDIN_FILENO;
 use libc::STDOUT_FILENO;
-use pack::lay;
-use pack::lay::Laid;
 use pack::read;
 use pack::read::Answer;
+use profile::Profile;
+use profile::Shape;
 use text::Line;
 use text::Scan;
-use trailer::Profile;
-use trailer::Shape;
 ghost use Prim.Native.Nat.{_≤_};
 ghost use lib.ListN.{length};
 
@@ -21,7 +20,10 @@ ghost use lib.ListN.{length};
 const ROOM: usize = 65536;
 
 // Two packs of the smallest drive, in which bytes are tried.
-const FILE: usize = 8278;
+const FILE: usize = 2 * smallest::PACK;
+
+// The longest script.
+const SCRIPT: usize = 16384;
 
 fn say(text: &[u8]) {
     io::write_all(STDOUT_FILENO, text);
@@ -118,43 +120,41 @@ fn show_tried(file: &mut [u8; ROOM], place: u16, value: u8) {
     swap(file, place, old);
 }
 
-// The smallest drive, but for its slot and its size.
-fn drive(slot: u8, cylinders: u16, heads: u8, track: u16) -> Profile {
+// The smallest drive but for its size, with the longest tracks.
+fn large(cylinders: u16, heads: u8) -> Profile {
     let shape = Shape {
         cylinders: Cylinder(cylinders),
         heads: Head(heads),
-        track: Position(track),
+        track: Position(40960),
         sector: Position(512),
     };
-    let mut p = Profile::blank();
-    p.slot = slot;
-    p.general = 0x0242;
+    let mut p = smallest::drive(1);
     p.shape = shape;
     p
 }
 
 fn show_laid(r: Laid) {
-    say_number(lay::number(r) as u32);
+    say_number(laying::number(r) as u32);
     end_line();
 }
 
 fn lay(file: &mut [u8], place: usize, p: Profile)
     requires { ⌜ place ≤ length (now file) ⌝ }
 {
-    show_laid(lay::lay(p, &mut file[place..]));
+    show_laid(laying::lay(p, &mut file[place..]));
 }
 
 fn lay_smallest(file: &mut [u8; ROOM], place: u16, slot: u8) {
     say(b"lay");
     say_number(slot as u32);
     say_number(place as u32);
-    lay(file, place as usize, drive(slot, 1, 1, 4095));
+    lay(file, place as usize, smallest::drive(slot));
 }
 
-// A drive of the longest tracks: too much for the room, or more than any pack may have.
+// Too much for the room, or more than any pack may have.
 fn lay_large(file: &mut [u8; ROOM], cylinders: u16, heads: u8) {
     say_two(b"large", cylinders, heads);
-    lay(file, 0, drive(1, cylinders, heads, 40960));
+    lay(file, 0, large(cylinders, heads));
 }
 
 fn step(file: &mut [u8; ROOM], what: u16, place: u16, value: u8) {
@@ -175,9 +175,9 @@ fn step(file: &mut [u8; ROOM], what: u16, place: u16, value: u8) {
 fn line(rest: &[u8], file: &mut [u8; ROOM]) -> usize
     ensures { λ r. ⌜ r ≤ length (now (rest .entry)) ⌝ }
 {
-    let stop = text::scan_on(rest, Scan::fresh());
+    let stop = text::read::scan_on(rest, Scan::fresh());
     let end = stop.at;
-    let said = text::finish(stop.scan);
+    let said = text::read::finish(stop.scan);
     match said {
         Line::Numbers(what, place, value) => step(file, what, place, (value % 256) as u8),
         Line::Unreadable => {
@@ -209,7 +209,7 @@ fn through_disk(file: &[u8; ROOM], again: &mut [u8; ROOM]) -> u32 {
 }
 
 fn main() {
-    let mut script = [0u8; 16384];
+    let mut script = [0u8; SCRIPT];
     let mut file = [0u8; ROOM];
     let n = io::read_full(STDIN_FILENO, &mut script);
     run(&script[..n], &mut file);

@@ -2,17 +2,17 @@
 use Prim.Native.Nat.{ℕ, _-_}
 use mathlib.Core.List.{List}
 use lib.ListN.{set}
-use lib.Dec.{eqb}
 use Rattle.counts.specs.declared.Micros.{Micros}
 use Rattle.counts.specs.Choice.{if_then_else_}
 use Rattle.counts.specs.Slots.{mapWith}
 use Rattle.pack.specs.declared.Pack.{Pack}
 use Rattle.drive.specs.declared.State.{State}
-use Rattle.drive.specs.Time as time
+use Rattle.rules.specs.Time as time
 use Rattle.record.specs.declared.Chain.{Chain}
 use Rattle.decision.specs.declared.Change.{Change}
 use Rattle.decision.specs.declared.Change.the-variants.{Nothing, One, Two, Pass}
 use Rattle.decision.specs.declared.Decision.{Decision}
+use Rattle.decision.specs.Decision.{fittedB}
 use Rattle.record.specs.Record.{slotB}
 
 unfoldable pub putOf : List State → ℕ → State → List State
@@ -20,7 +20,7 @@ putOf states slot s = if slotB slot then set states (slot - 1) s else states
 
 -- "Microseconds passing lower both timers of every drive"
 unfoldable pub passSlot : Micros → Pack → State → State
-passSlot us p s = if eqb (p .fitted) 1 then time.passOf us s .state else s
+passSlot us p s = if fittedB p then time.passOf us s .state else s
 
 unfoldable pub changedOf : List Pack → List State → Change → List State
 changedOf packs states Nothing = states

@@ -27,7 +27,7 @@ slotState states slot = if slotB slot then getD states (slot - 1) blankState els
 -- the selected drive, if a fitted one is
 unfoldable pub lookOf : Chain → Seen
 lookOf c = record {
-  on = fittedB (slotPack (c .packs) (c .lines .select));
+  selected = fittedB (slotPack (c .packs) (c .lines .select));
   place = slotPack (c .packs) (c .lines .select) .place;
   profile = slotPack (c .packs) (c .lines .select) .profile;
   state = slotState (c .states) (c .lines .select);

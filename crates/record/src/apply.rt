@@ -4,8 +4,8 @@ use counts::Micros;
 use decision::Change;
 use decision::Decision;
 use drive::State;
-use drive::time;
 use pack::Pack;
+use rules::time;
 ghost use mathlib.Core.Path.{_≡_};
 ghost use Rattle.record.specs.Apply.{putOf, passSlot, changedOf, applied};
 
@@ -29,7 +29,7 @@ fn put(states: [State; 7], slot: u8, s: State) -> [State; 7]
 fn pass_slot(p: Pack, s: State, us: Micros) -> State
     ensures { λ r. ⌜ r ≡ passSlot us p s ⌝ }
 {
-    if p.fitted != 1 {
+    if !decision::fitted(p) {
         return s;
     }
     let r = time::pass(s, us);

@@ -43,7 +43,7 @@ pub fn look(c: Chain) -> Seen
     let profile = p.profile;
     let state = state_in(states, select);
     Seen {
-        on: decision::fitted(p),
+        selected: decision::fitted(p),
         place,
         profile,
         state,

@@ -1,25 +1,19 @@
 // The bus runner: fits a chain from a pack file and answers event lines. What is wrong goes to standard error.
 mod stream;
 
-use chain::fresh;
-use counts::Cylinder;
-use counts::Head;
 use counts::Place;
-use counts::Position;
 use libc::STDERR_FILENO;
 use pack::Refusal;
-use pack::lay;
 use pack::read::Answer;
-use trailer::Profile;
-use trailer::Shape;
-ghost use mathlib.Core.Path.{_≡_};
+use profile::Profile;
+ghost use Prim.Native.Nat.{_≤_};
 ghost use lib.ListN.{length};
 
 // The longest pack file that is taken: it lies on the stack.
 const LIMIT: usize = 1048576;
 
-// The length of the smallest drive's pack.
-const SMALLEST: usize = 4139;
+// The length of two packs of the smallest drive.
+const TWO: usize = 2 * smallest::PACK;
 
 fn complain(text: &[u8]) {
     io::write_all(STDERR_FILENO, text);
@@ -47,31 +41,21 @@ fn run(file: &mut [u8]) {
     }
 }
 
-fn smallest(slot: u8) -> Profile {
-    let shape = Shape {
-        cylinders: Cylinder(1),
-        heads: Head(1),
-        track: Position(4095),
-        sector: Position(512),
-    };
-    let mut p = Profile::blank();
-    p.slot = slot;
-    p.general = 0x0242;
-    p.shape = shape;
-    p
+fn lay_at(file: &mut [u8], place: usize, p: Profile)
+    requires { ⌜ place ≤ length (now file) ⌝ }
+{
+    laying::lay(p, &mut file[place..]);
 }
 
 // The smallest drive in slots 1 and 3.
-fn run_two(file: &mut [u8])
-    requires { ⌜ length (now file) ≡ 8278 ⌝ }
-{
-    lay::lay(smallest(1), file);
-    lay::lay(smallest(3), &mut file[SMALLEST..]);
+fn run_two(file: &mut [u8; TWO]) {
+    lay_at(file, 0, smallest::drive(1));
+    lay_at(file, smallest::PACK, smallest::drive(3));
     run(file);
 }
 
 fn run_smallest() {
-    let mut file = [0u8; 2 * SMALLEST];
+    let mut file = [0u8; TWO];
     run_two(&mut file);
 }
 

@@ -1,55 +1,26 @@
 // Event lines in, answer lines out, in blocks. Bytes are scanned apart from the chain, which moves once a line.
-use chain::fresh;
 use libc::STDIN_FILENO;
 use libc::STDOUT_FILENO;
 use record::Chain;
-use text::Line;
 use text::Scan;
 ghost use mathlib.Core.Path.{_≡_};
 ghost use Prim.Native.Nat.{_≤_};
 ghost use lib.ListN.{length};
+ghost use Rattle.runner.specs.Block.{block as blockLength};
+
+// How much is read, and how much waits to be written, at a time.
+const BLOCK: usize = 65536;
 
 struct Run {
     chain: Chain,
+    // the line that is being read
+    scan: Scan,
+    // how many lines were answered
     lines: u64,
     // how much of the output waits
     at: usize,
     // false once a write failed
     open: bool,
-}
-
-struct Fed {
-    run: Run,
-    scan: Scan,
-    more: bool,
-}
-
-struct Told {
-    chain: Chain,
-    answer: u8,
-    value: u8,
-}
-
-fn step(c: Chain, file: &mut [u8], kind: u16, a: u16, b: u16) -> Told {
-    let s = board::step(c, file, kind as u32, a as u32, b as u32);
-    let chain = s.chain;
-    let said = s.answer;
-    Told {
-        chain,
-        answer: event::number(said),
-        value: event::value(said),
-    }
-}
-
-fn outcome(c: Chain, file: &mut [u8], line: Line) -> Told {
-    match line {
-        Line::Numbers(kind, a, b) => step(c, file, kind, a, b),
-        Line::Unreadable => Told {
-            chain: c,
-            answer: text::unreadable(),
-            value: 0,
-        },
-    }
 }
 
 // A reader that has gone is no fault of the run.
@@ -64,11 +35,13 @@ fn complain() {
     os::fail(b"standard output");
 }
 
-fn written(part: &[u8], open: bool) -> bool {
+fn written(out: &[u8], n: usize, open: bool) -> bool
+    requires { ⌜ n ≤ length (now out) ⌝ }
+{
     if !open {
         return false;
     }
-    let good = io::write_all(STDOUT_FILENO, part);
+    let good = io::write_all(STDOUT_FILENO, &out[..n]);
     if !good {
         complain();
     }
@@ -76,161 +49,130 @@ fn written(part: &[u8], open: bool) -> bool {
 }
 
 // Writes out what waits.
-fn flushed(out: &[u8], r: Run) -> Run
-    requires { ⌜ r .at ≤ length (now out) ⌝ }
-    ensures { λ q. ⌜ q .at ≡ 0 ⌝ }
+fn flushed(out: &[u8; BLOCK], r: Run) -> Run
+    requires { ⌜ r .at ≤ blockLength ⌝ }
+    ensures { λ q. ⌜ q .at ≤ blockLength ⌝ }
 {
-    let at = r.at;
-    let open = written(&out[..at], r.open);
-    let chain = r.chain;
+    let mut q = r;
+    q.open = written(out, r.at, r.open);
+    q.at = 0;
+    q
+}
+
+// An answer line behind what waits, and the place behind it.
+fn put(out: &mut [u8], at: usize, lines: u64, answer: u8, value: u8, sum: u8) -> usize
+    requires { ⌜ at ≤ length (now out) ⌝ }
+    ensures { λ r. ⌜ r ≤ length (now (out .entry)) ⌝ }
+{
+    at + text::put::put_answer(&mut out[at..], lines, answer, value, sum)
+}
+
+// The event of a line, and its answer among what waits.
+fn stored(out: &mut [u8; BLOCK], file: &mut [u8], r: Run, scan: Scan) -> Run
+    requires { ⌜ r .at ≤ blockLength ⌝ }
+    ensures { λ q. ⌜ q .at ≤ blockLength ⌝ }
+{
+    let t = reply::to_line(r.chain, file, text::read::finish(scan));
+    let chain = t.chain;
+    let lines = std::num::wrapping_add_u64(r.lines, 1);
     Run {
         chain,
-        lines: r.lines,
-        at: 0,
-        open,
+        scan: Scan::fresh(),
+        lines,
+        at: put(out, r.at, lines, t.answer, t.value, t.sum),
+        open: r.open,
     }
 }
 
-// The end of a line: its event, its answer, and room for the next.
-fn answered(out: &mut [u8], file: &mut [u8], r: Run, scan: Scan) -> Run
-    requires { ⌜ (length (now out) ≡ 65536) × (r .at ≤ 65536) ⌝ }
-    ensures { λ q. ⌜ q .at ≤ 65536 ⌝ }
+// A line as far as it was read, answered where it ends. What waits is written where the next answer might find no room.
+fn met(out: &mut [u8; BLOCK], file: &mut [u8], r: Run, scan: Scan, ends: bool) -> Run
+    requires { ⌜ r .at ≤ blockLength ⌝ }
+    ensures { λ q. ⌜ q .at ≤ blockLength ⌝ }
 {
-    let lines = std::num::wrapping_add_u64(r.lines, 1);
-    let c = r.chain;
-    let t = outcome(c, file, text::finish(scan));
-    let chain = t.chain;
-    let sum = fresh::line_sum(chain);
-    let at = r.at;
-    let n = text::put_answer(&mut out[at..], lines, t.answer, t.value, sum);
-    let q = Run {
-        chain,
-        lines,
-        at: at + n,
-        open: r.open,
-    };
-    if q.at > 65536 - text::LONGEST {
+    if !ends {
+        let mut on = r;
+        on.scan = scan;
+        return on;
+    }
+    let q = stored(out, file, r, scan);
+    if q.at > BLOCK - text::put::LONGEST {
         return flushed(out, q);
     }
     q
 }
 
-// A block of input, which may end within a line.
-fn fed_all(block: &[u8], out: &mut [u8], file: &mut [u8], first: Fed) -> Fed
-    requires { ⌜ (length (now out) ≡ 65536) × (first .run .at ≤ 65536) ⌝ }
-    ensures { λ q. ⌜ q .run .at ≤ 65536 ⌝ }
+// The first n bytes of a block of input, which may end within a line.
+fn fed(block: &[u8], n: usize, out: &mut [u8; BLOCK], file: &mut [u8], first: Run) -> Run
+    requires { ⌜ (length (now block) ≡ blockLength) × (n ≤ blockLength) × (first .at ≤ blockLength) ⌝ }
+    ensures { λ q. ⌜ q .at ≤ blockLength ⌝ }
 {
-    let mut run = first.run;
-    let mut scan = first.scan;
+    let mut r = first;
     let mut i = 0;
-    while i < block.len() {
-        let stop = text::scan_on(&block[i..], scan);
-        let at = i + stop.at;
-        if at >= block.len() {
-            let s = stop.scan;
-            return Fed {
-                run,
-                scan: s,
-                more: run.open,
-            };
-        }
-        run = answered(out, file, run, stop.scan);
-        scan = Scan::fresh();
-        i = at + 1;
+    while i < n {
+        let stop = text::read::scan_on(&block[i..n], r.scan);
+        let end = i + stop.at;
+        r = met(out, file, r, stop.scan, end < n);
+        i = end + 1;
     }
-    Fed {
-        run,
-        scan,
-        more: run.open,
-    }
+    r
 }
 
-fn stopped(f: Fed) -> Fed
-    requires { ⌜ f .run .at ≤ 65536 ⌝ }
-    ensures { λ q. ⌜ q .run .at ≤ 65536 ⌝ }
+// Reads once. Nothing comes at the end, where a read fails, and once nothing can be written.
+fn filled(block: &mut [u8; BLOCK], open: bool) -> usize
+    ensures { λ r. ⌜ r ≤ blockLength ⌝ }
 {
-    let run = f.run;
-    let scan = f.scan;
-    Fed {
-        run,
-        scan,
-        more: false,
-    }
-}
-
-// Reads once, with nothing kept back: a host may wait for its answers before it goes on.
-fn turn(block: &mut [u8], out: &mut [u8], file: &mut [u8], f: Fed) -> Fed
-    requires { ⌜ (length (now out) ≡ 65536) × (f .run .at ≤ 65536) ⌝ }
-    ensures { λ q. ⌜ q .run .at ≤ 65536 ⌝ }
-{
-    let run = flushed(out, f.run);
-    let scan = f.scan;
-    let ready = Fed {
-        run,
-        scan,
-        more: f.more,
-    };
-    if !run.open {
-        return stopped(ready);
+    if !open {
+        return 0;
     }
     let got = libc::read(STDIN_FILENO, block);
     if got < 0 {
         os::fail(b"standard input");
-        return stopped(ready);
     }
-    if got == 0 {
-        return stopped(ready);
-    }
-    let n = io::count(got, block);
-    fed_all(&block[..n], out, file, ready)
+    io::count(got, block)
 }
 
+// Reads to the end, with no answer kept back while it waits for input: a host may want them before it goes on.
 // A proved loop has to end: it counts its turns down from a number that no run uses up.
-fn run_all(block: &mut [u8], out: &mut [u8], file: &mut [u8], first: Fed) -> Fed
-    requires { ⌜ (length (now out) ≡ 65536) × (first .run .at ≤ 65536) ⌝ }
-    ensures { λ q. ⌜ q .run .at ≤ 65536 ⌝ }
+fn run_all(block: &mut [u8; BLOCK], out: &mut [u8; BLOCK], file: &mut [u8], first: Run) -> Run
+    requires { ⌜ first .at ≤ blockLength ⌝ }
+    ensures { λ q. ⌜ q .at ≤ blockLength ⌝ }
 {
-    let mut f = first;
+    let mut r = first;
     let mut turns = u64::MAX;
     while turns > 0 {
-        f = turn(block, out, file, f);
-        if !f.more {
+        r = flushed(out, r);
+        let n = filled(block, r.open);
+        if n == 0 {
             break;
         }
+        r = fed(block, n, out, file, r);
         turns -= 1;
     }
-    f
+    r
 }
 
-// The last line may lack its newline.
-fn last_line(out: &mut [u8], file: &mut [u8], f: Fed) -> Run
-    requires { ⌜ (length (now out) ≡ 65536) × (f .run .at ≤ 65536) ⌝ }
-    ensures { λ q. ⌜ q .at ≤ 65536 ⌝ }
+fn start(chain: Chain) -> Run
+    ensures { λ q. ⌜ q .at ≤ blockLength ⌝ }
 {
-    let r = f.run;
-    let s = f.scan;
-    if text::has_byte(s) {
-        return answered(out, file, r, s);
+    Run {
+        chain,
+        scan: Scan::fresh(),
+        lines: 0,
+        at: 0,
+        open: true,
     }
-    r
+}
+
+fn serve_in(chain: Chain, file: &mut [u8], block: &mut [u8; BLOCK], out: &mut [u8; BLOCK]) {
+    let r = run_all(block, out, file, start(chain));
+    // the last line may lack its newline
+    let end = met(out, file, r, r.scan, text::read::has_byte(r.scan));
+    flushed(out, end);
 }
 
 // Answers every line of standard input.
 pub fn serve(chain: Chain, file: &mut [u8]) {
     let mut block = io::large_buffer();
     let mut out = io::large_buffer();
-    let run = Run {
-        chain,
-        lines: 0,
-        at: 0,
-        open: true,
-    };
-    let first = Fed {
-        run,
-        scan: Scan::fresh(),
-        more: true,
-    };
-    let f = run_all(&mut block, &mut out, file, first);
-    let end = last_line(&mut out, file, f);
-    flushed(&out, end);
+    serve_in(chain, file, &mut block, &mut out);
 }

@@ -12,18 +12,33 @@ use drive::State;
 use drive::Timers;
 use handshake::Transfer;
 use pack::Pack;
+use profile::Profile;
 use record::Chain;
 use unit::Lines;
 
 // What a name says that no field has.
 pub const NO_FIELD: u32 = 4_294_967_295;
 
-fn narrow(v: u32) -> u8 {
-    (v % 256) as u8
+// A field with its new value where it is the one named, else as it was; for each width.
+fn byte(named: bool, v: u32, old: u8) -> u8 {
+    if named {
+        return (v % 256) as u8;
+    }
+    old
 }
 
-fn half(v: u32) -> u16 {
-    (v % 65_536) as u16
+fn half(named: bool, v: u32, old: u16) -> u16 {
+    if named {
+        return (v % 65_536) as u16;
+    }
+    old
+}
+
+fn whole(named: bool, v: u32, old: u32) -> u32 {
+    if named {
+        return v;
+    }
+    old
 }
 
 fn arm_name(name: &[u8]) -> u8 {
@@ -40,21 +55,11 @@ fn arm_field(a: Arm, k: u8) -> u32 {
 }
 
 fn with_arm(a: Arm, k: u8, v: u32) -> Arm {
-    let mut e = a;
-    if k == 0 {
-        let cylinder = Cylinder(half(v));
-        e.cylinder = cylinder;
-        return e;
+    Arm {
+        cylinder: Cylinder(half(k == 0, v, a.cylinder.0)),
+        offset: byte(k == 1, v, a.offset),
+        lost: byte(k == 2, v, a.lost),
     }
-    if k == 1 {
-        e.offset = narrow(v);
-        return e;
-    }
-    if k == 2 {
-        e.lost = narrow(v);
-        return e;
-    }
-    e
 }
 
 fn timer_name(name: &[u8]) -> u8 {
@@ -70,17 +75,10 @@ fn timers_field(t: Timers, k: u8) -> u32 {
 }
 
 fn with_timers(t: Timers, k: u8, v: u32) -> Timers {
-    let mut e = t;
-    let us = Micros(v);
-    if k == 0 {
-        e.busy = us;
-        return e;
+    Timers {
+        busy: Micros(whole(k == 0, v, t.busy.0)),
+        head: Micros(whole(k == 1, v, t.head.0)),
     }
-    if k == 1 {
-        e.head = us;
-        return e;
-    }
-    e
 }
 
 // The body's own fields.
@@ -100,45 +98,20 @@ fn body_field(b: Body, k: u8) -> u32 {
     }
 }
 
-fn with_own(b: Body, k: u8, v: u32) -> Body {
-    let mut e = b;
-    if k == 0 {
-        let latched = Latched(half(v));
-        e.latched = latched;
-        return e;
-    }
-    if k == 1 {
-        let sector = Position(half(v));
-        e.sector = sector;
-        return e;
-    }
-    if k == 2 {
-        let head = Head(narrow(v));
-        e.head = head;
-        return e;
-    }
-    if k == 3 {
-        e.motor = narrow(v);
-        return e;
-    }
-    if k == 4 {
-        e.reading = narrow(v);
-        return e;
-    }
-    if k == 5 {
-        e.writing = narrow(v);
-        return e;
-    }
-    e
-}
-
 fn with_body(b: Body, name: &[u8], v: u32) -> Body {
-    let arm = with_arm(b.arm, arm_name(name), v);
     let timers = with_timers(b.timers, timer_name(name), v);
-    let mut e = with_own(b, body_name(name), v);
-    e.arm = arm;
-    e.timers = timers;
-    e
+    let arm = with_arm(b.arm, arm_name(name), v);
+    let k = body_name(name);
+    Body {
+        timers,
+        arm,
+        latched: Latched(half(k == 0, v, b.latched.0)),
+        sector: Position(half(k == 1, v, b.sector.0)),
+        head: Head(byte(k == 2, v, b.head.0)),
+        motor: byte(k == 3, v, b.motor),
+        reading: byte(k == 4, v, b.reading),
+        writing: byte(k == 5, v, b.writing),
+    }
 }
 
 fn transfer_name(name: &[u8]) -> u8 {
@@ -158,33 +131,14 @@ fn transfer_field(t: Transfer, k: u8) -> u32 {
 }
 
 fn with_transfer(t: Transfer, k: u8, v: u32) -> Transfer {
-    let mut e = t;
-    if k == 0 {
-        let waiting = Micros(v);
-        e.waiting = waiting;
-        return e;
+    Transfer {
+        waiting: Micros(whole(k == 0, v, t.waiting.0)),
+        bits: whole(k == 1, v, t.bits),
+        response: whole(k == 2, v, t.response),
+        way: byte(k == 3, v, t.way),
+        count: byte(k == 4, v, t.count),
+        acknowledge: byte(k == 5, v, t.acknowledge),
     }
-    if k == 1 {
-        e.bits = v;
-        return e;
-    }
-    if k == 2 {
-        e.response = v;
-        return e;
-    }
-    if k == 3 {
-        e.way = narrow(v);
-        return e;
-    }
-    if k == 4 {
-        e.count = narrow(v);
-        return e;
-    }
-    if k == 5 {
-        e.acknowledge = narrow(v);
-        return e;
-    }
-    e
 }
 
 fn pack_name(name: &[u8]) -> u8 {
@@ -202,33 +156,21 @@ fn pack_field(p: Pack, k: u8) -> u32 {
     }
 }
 
-fn with_pack(p: Pack, k: u8, v: u32) -> Pack {
+fn with_profile(p: Profile, k: u8, v: u32) -> Profile {
     let mut e = p;
-    if k == 0 {
-        e.fitted = narrow(v);
-        return e;
-    }
-    if k == 1 {
-        let place = Place(v);
-        e.place = place;
-        return e;
-    }
-    if k == 2 {
-        let slot = narrow(v);
-        e.profile.slot = slot;
-        return e;
-    }
-    if k == 3 {
-        let general = half(v);
-        e.profile.general = general;
-        return e;
-    }
-    if k == 4 {
-        let protected = narrow(v);
-        e.profile.protected = protected;
-        return e;
-    }
+    e.slot = byte(k == 2, v, p.slot);
+    e.general = half(k == 3, v, p.general);
+    e.protected = byte(k == 4, v, p.protected);
     e
+}
+
+fn with_pack(p: Pack, k: u8, v: u32) -> Pack {
+    let profile = with_profile(p.profile, k, v);
+    Pack {
+        fitted: byte(k == 0, v, p.fitted),
+        place: Place(whole(k == 1, v, p.place.0)),
+        profile,
+    }
 }
 
 fn line_name(name: &[u8]) -> u8 {
@@ -248,33 +190,14 @@ fn line_field(l: Lines, k: u8) -> u32 {
 }
 
 fn with_line(l: Lines, k: u8, v: u32) -> Lines {
-    let mut e = l;
-    if k == 0 {
-        e.select = narrow(v);
-        return e;
+    Lines {
+        select: byte(k == 0, v, l.select),
+        heads: Head(byte(k == 1, v, l.heads.0)),
+        writegate: byte(k == 2, v, l.writegate),
+        readgate: byte(k == 3, v, l.readgate),
+        command: byte(k == 4, v, l.command),
+        request: byte(k == 5, v, l.request),
     }
-    if k == 1 {
-        let heads = Head(narrow(v));
-        e.heads = heads;
-        return e;
-    }
-    if k == 2 {
-        e.writegate = narrow(v);
-        return e;
-    }
-    if k == 3 {
-        e.readgate = narrow(v);
-        return e;
-    }
-    if k == 4 {
-        e.command = narrow(v);
-        return e;
-    }
-    if k == 5 {
-        e.request = narrow(v);
-        return e;
-    }
-    e
 }
 
 fn cable_field(c: Chain, k: u8) -> u32 {
@@ -286,14 +209,11 @@ fn cable_field(c: Chain, k: u8) -> u32 {
 }
 
 fn with_cable(c: Chain, k: u8, v: u32) -> Chain {
-    let mut e = c;
-    if k == 6 {
-        let length = Place(v);
-        e.length = length;
-        return e;
-    }
     let lines = with_line(c.lines, k, v);
+    let length = Place(whole(k == 6, v, c.length.0));
+    let mut e = c;
     e.lines = lines;
+    e.length = length;
     e
 }
 

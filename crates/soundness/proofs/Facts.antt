@@ -12,15 +12,18 @@ use lib.ListN.{getD}
 use Rattle.counts.specs.declared.Position.{Position}
 use Rattle.counts.specs.Choice.{if_then_else_}
 use Rattle.counts.specs.Slots.{allWith}
-use Rattle.counts.proofs.Tests.{both, each, within-both}
-use Rattle.trailer.specs.Profile.{mediumOf}
-use Rattle.trailer.specs.Valid.{validB}
+use Rattle.counts.proofs.Choice.{guarded}
+use Rattle.counts.proofs.Slots.{all-at}
+use Rattle.counts.proofs.Tests.{each, within-both}
+use Rattle.profile.specs.Profile.{mediumOf}
+use Rattle.profile.specs.Valid.{validB}
 use Rattle.pack.specs.declared.Pack.{Pack}
 use Rattle.pack.specs.Packs.{noPack, longest}
 use Rattle.drive.specs.declared.State.{State}
 use Rattle.drive.specs.State.{blankState}
-use Rattle.drive.specs.Cell.{placeOf}
-use Rattle.drive.proofs.Facts.{on-cylinder, usable}
+use Rattle.gates.specs.Cell.{placeOf}
+use Rattle.drive.proofs.Facts.{on-cylinder}
+use Rattle.gates.proofs.Facts.{usable}
 use Rattle.unit.specs.declared.Lines.{Lines}
 use Rattle.unit.specs.Sound as unit
 use Rattle.unit.proofs.Facts.{Selected, selected, writes, reads}
@@ -30,10 +33,6 @@ use Rattle.soundness.specs.declared.Placed.{Placed}
 use Rattle.record.specs.Record.{slotB, slotPack, slotState, lookOf}
 use Rattle.kinds.specs.Cell.{cellPlace}
 use Rattle.soundness.specs.Sound.{packTests, packB, placedOf, placesB, driveB, soundB}
-
-pub guarded : (a b : Bool) → (if not a then false else b) ≡ true → (a ≡ true) × (b ≡ true)
-guarded true b h = (refl, h)
-guarded false b h = absurd (false≢true h)
 
 unless : (a b : Bool) → (if a then false else b) ≡ true → (a ≡ false) × (b ≡ true)
 unless true b h = absurd (false≢true h)
@@ -52,14 +51,6 @@ sound c h =
     let b = unless (ltb longest (c .length .0)) _ (a .1) in
     let d = guarded (placesB (c .packs) 1 0 (c .length .0)) _ (b .1) in
     record { lines = a .0; long = ltb-false _ _ (b .0); places = d .0; drives = d .1 }
-
--- what holds side by side holds at each place; past the end of the first list z stands
-pub all-at : {A B : Type 0} (p : A → B → Bool) (z : A) (v : B) → ((y : B) → p z y ≡ true) → (xs : List A) (ys : List B) (i : ℕ)
-    → allWith p xs ys ≡ true → p (getD xs i z) (getD ys i v) ≡ true
-all-at p z v h [] ys i e = h (getD ys i v)
-all-at p z v h (x ∷ xs) [] i e = absurd (false≢true e)
-all-at p z v h (x ∷ xs) (y ∷ ys) zero e = both (p x y) (allWith p xs ys) e .0
-all-at p z v h (x ∷ xs) (y ∷ ys) (suc i) e = all-at p z v h xs ys i (both (p x y) (allWith p xs ys) e .1)
 
 -- a fitted pack, in its own slot and within the file
 pub record InFile (slot len : ℕ) (p : Pack) : Type 0 where
@@ -150,7 +141,7 @@ drives : (l : Lines) (p : Pack) (s : State) → driveB l p s ≡ true → p .fit
 unfolding driveB
 drives l p s h f own = selected (p .profile) l s (rw (eq-eqb _ _ f, eq-eqb _ _ own) at h)
 
-pub chosen : (c : Chain) → soundB c ≡ true → lookOf c .on ≡ true → Chosen c (lookOf c)
+pub chosen : (c : Chain) → soundB c ≡ true → lookOf c .selected ≡ true → Chosen c (lookOf c)
 unfolding lookOf
 chosen c h on =
     let s = sound c h in
@@ -167,7 +158,7 @@ chosen c h on =
     record { pack = rw ep i; drive = rw (ep, es) d }
 
 -- the byte that a cell meets stands in the selected pack's medium
-pub cell-inside : (c : Chain) (position : Position) → soundB c ≡ true → lookOf c .on ≡ true → position .0 < lookOf c .profile .shape .track .0
+pub cell-inside : (c : Chain) (position : Position) → soundB c ≡ true → lookOf c .selected ≡ true → position .0 < lookOf c .profile .shape .track .0
     → (lookOf c .state .body .writing ≡ 1) ⊎ (lookOf c .state .body .reading ≡ 1)
     → cellPlace (lookOf c) position < lookOf c .place .0 + mediumOf (lookOf c .profile .shape)
 unfolding cellPlace placeOf
@@ -177,7 +168,7 @@ cell-inside c position h on t u =
     omega (arith, digits-lt (digits-lt (on-cylinder _ _ (d .limits)) present) t)
 
 -- and so in the file
-pub cell-in-file : (c : Chain) (position : Position) → soundB c ≡ true → lookOf c .on ≡ true → position .0 < lookOf c .profile .shape .track .0
+pub cell-in-file : (c : Chain) (position : Position) → soundB c ≡ true → lookOf c .selected ≡ true → position .0 < lookOf c .profile .shape .track .0
     → (lookOf c .state .body .writing ≡ 1) ⊎ (lookOf c .state .body .reading ≡ 1) → cellPlace (lookOf c) position < c .length .0
 unfolding lookOf
 cell-in-file c position h on t u = omega (arith, chosen c h on .pack .within, cell-inside c position h on t u)

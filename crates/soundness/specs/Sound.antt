@@ -6,13 +6,15 @@ use lib.Dec.{ltb, eqb}
 use Rattle.counts.specs.Choice.{if_then_else_}
 use Rattle.counts.specs.Slots.{allWith}
 use Rattle.counts.specs.Tests.{allOf}
-use Rattle.trailer.specs.Profile.{trailerLength, mediumOf}
-use Rattle.trailer.specs.Valid.{validB}
+use Rattle.profile.specs.Profile.{mediumOf}
+use Rattle.trailer.specs.Form.{trailerLength}
+use Rattle.profile.specs.Valid.{validB}
 use Rattle.pack.specs.declared.Pack.{Pack}
 use Rattle.pack.specs.Packs.{longest}
 use Rattle.drive.specs.declared.State.{State}
 use Rattle.unit.specs.declared.Lines.{Lines}
 use Rattle.unit.specs.Sound as unit
+use Rattle.decision.specs.Decision.{fittedB}
 use Rattle.record.specs.declared.Chain.{Chain}
 use Rattle.soundness.specs.declared.Placed.{Placed}
 
@@ -27,7 +29,7 @@ packB p slot at = allOf (packTests p slot at)
 unfoldable pub placedOf : Pack → ℕ → ℕ → Placed
 placedOf p slot at =
     if ltb 1 (p .fitted) then record { ok = false; end = at }
-    else if not (eqb (p .fitted) 1) then record { ok = true; end = at }
+    else if not (fittedB p) then record { ok = true; end = at }
     else record { ok = packB p slot at; end = p .place .0 + mediumOf (p .profile .shape) + trailerLength }
 
 -- from a slot on, those in front ending at a place; the last ends at the file's end
@@ -38,7 +40,7 @@ placesB (p ∷ packs) slot at length =
 
 -- an empty slot is not looked at
 unfoldable pub driveB : Lines → Pack → State → Bool
-driveB l p s = if not (eqb (p .fitted) 1) then true else unit.soundB (p .profile) l (eqb (l .select) (p .profile .slot)) s
+driveB l p s = if not (fittedB p) then true else unit.soundB (p .profile) l (eqb (l .select) (p .profile .slot)) s
 
 unfoldable pub soundB : Chain → Bool
 soundB c =

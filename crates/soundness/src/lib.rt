@@ -2,7 +2,6 @@
 use drive::State;
 use pack::Pack;
 use record::Chain;
-use trailer::Profile;
 use unit::Lines;
 use unit::sound;
 ghost use mathlib.Core.Path.{_≡_};
@@ -14,7 +13,7 @@ fn pack_ok(p: Pack, slot: u8, at: usize) -> bool
     ensures { λ r. ⌜ r ≡ packB p slot at ⌝ }
 {
     let profile = p.profile;
-    (profile.slot == slot) & (p.place.0 as usize == at) & trailer::valid(profile)
+    (profile.slot == slot) & (p.place.0 as usize == at) & profile::valid::valid(profile)
 }
 
 // Whether a slot's pack may stand, and where the packs up to it end.
@@ -29,13 +28,13 @@ fn place(p: Pack, slot: u8, at: usize) -> Placed
     if p.fitted > 1 {
         return Placed { ok: false, end: at };
     }
-    if p.fitted != 1 {
+    if !decision::fitted(p) {
         return Placed { ok: true, end: at };
     }
     let shape = p.profile.shape;
     Placed {
         ok: pack_ok(p, slot, at),
-        end: p.place.0 as usize + trailer::medium(shape) + Profile::TRAILER,
+        end: p.place.0 as usize + profile::medium(shape) + trailer::LENGTH,
     }
 }
 
@@ -58,7 +57,7 @@ fn places_ok(packs: [Pack; 7], length: u32) -> bool
 fn drive_ok(p: Pack, s: State, l: Lines) -> bool
     ensures { λ r. ⌜ r ≡ driveB l p s ⌝ }
 {
-    if p.fitted != 1 {
+    if !decision::fitted(p) {
         return true;
     }
     let profile = p.profile;
@@ -88,7 +87,7 @@ pub fn is_sound(c: Chain) -> bool
     if !sound::lines_ok(l) {
         return false;
     }
-    if c.length.0 > 2_147_483_647 {
+    if c.length.0 as usize > Pack::LONGEST {
         return false;
     }
     if !places_ok(packs, c.length.0) {

@@ -2,8 +2,8 @@
 use mathlib.Core.Path.{_≡_}
 use mathlib.Core.List.{List}
 use Prim.Native.Nat.{ℕ}
-use Rattle.trailer.specs.declared.Shape.{Shape}
-use Rattle.trailer.specs.declared.Times.{Times}
+use Rattle.profile.specs.declared.Shape.{Shape}
+use Rattle.profile.specs.declared.Times.{Times}
 use Rattle.trailer.specs.Fields.{ShapeIs, TimesIs, shapeOf, timesOf}
 
 pub shape-is : (t : List ℕ) (s : Shape) → ShapeIs t s → s ≡ shapeOf t

@@ -7,11 +7,12 @@ use native.Mathlib.Omega.{arith}
 use lib.ListN.{length, getD}
 use Rattle.counts.specs.Bytes.{one, four, Bytes}
 use Rattle.counts.proofs.Bytes.{two-back, four-back, listed, as-listed, first-of-two, last-byte, third-of-four, first-of-four, second-of-four}
-use Rattle.trailer.specs.declared.Profile.{Profile}
-use Rattle.trailer.specs.Fields.{profileOf}
+use Rattle.profile.specs.declared.Profile.{Profile}
+use Rattle.trailer.specs.Fields.{profileOf, zerosB}
 use Rattle.trailer.specs.Bytes.{trailerOf}
-use Rattle.trailer.specs.Valid.{validB, zerosB}
-use Rattle.trailer.proofs.Facts.{ranges, zeros}
+use Rattle.profile.specs.Valid.{validB}
+use Rattle.profile.proofs.Facts.{ranges}
+use Rattle.trailer.proofs.Facts.{zeros}
 
 pub read-laid : (p : Profile) (d : ℕ) → validB p ≡ true → profileOf (trailerOf p d) ≡ p
 unfolding profileOf

@@ -2,8 +2,8 @@
 use Prim.Native.Nat.{ℕ}
 use mathlib.Core.List.{List, _++_}
 use Rattle.counts.specs.Bytes.{bytes1, bytes2, bytes4}
-use Rattle.trailer.specs.declared.Profile.{Profile}
-use Rattle.trailer.specs.Profile.{formOne}
+use Rattle.profile.specs.declared.Profile.{Profile}
+use Rattle.trailer.specs.Form.{formOne}
 
 -- a profile and the bytes from the pack's end back to its start
 abbrev pub trailerOf : Profile → ℕ → List ℕ

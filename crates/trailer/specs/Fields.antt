@@ -1,11 +1,14 @@
 -- "Fields (place: meaning, range)": the profile that a trailer's bytes say.
 use Prim.Native.Nat.{ℕ}
 use mathlib.Core.Path.{_≡_}
-use mathlib.Core.List.{List}
+use mathlib.Core.List.{List, [], _∷_}
+use mathlib.Core.Bool.{Bool}
+use lib.Dec.{eqb}
 use Rattle.counts.specs.Bytes.{one, two, four}
-use Rattle.trailer.specs.declared.Profile.{Profile}
-use Rattle.trailer.specs.declared.Shape.{Shape}
-use Rattle.trailer.specs.declared.Times.{Times}
+use Rattle.counts.specs.Tests.{allOf}
+use Rattle.profile.specs.declared.Profile.{Profile}
+use Rattle.profile.specs.declared.Shape.{Shape}
+use Rattle.profile.specs.declared.Times.{Times}
 
 pub record ShapeIs (t : List ℕ) (r : Shape) : Type 0 where
   pub cylinders : r .cylinders .0 ≡ two t 4
@@ -52,3 +55,10 @@ profileOf t = record {
   shape = shapeOf t;
   times = timesOf t;
 }
+
+-- "1: zero. 15: zero. 38: zero."
+abbrev pub zeroTests : List ℕ → List Bool
+zeroTests t = eqb (one t 1) 0 ∷ eqb (one t 15) 0 ∷ eqb (one t 38) 0 ∷ []
+
+abbrev pub zerosB : List ℕ → Bool
+zerosB t = allOf (zeroTests t)

@@ -1,5 +1,3 @@
-pub mod Profile
-pub mod General
+pub mod Form
 pub mod Fields
 pub mod Bytes
-pub mod Valid

@@ -1,87 +1,22 @@
-// A pack's trailer: the profile of its drive, as 44 bytes and back, and which fields may stand.
+// A pack's trailer: the profile of its drive, as 44 bytes and back.
 use counts::Cylinder;
 use counts::Head;
 use counts::Micros;
 use counts::Position;
+use profile::Profile;
+use profile::Shape;
+use profile::Times;
 ghost use mathlib.Core.Path.{_≡_};
-ghost use Prim.Native.Nat.{_+_, _*_, _<_};
+ghost use Prim.Native.Nat.{_+_, _*_};
 ghost use Rattle.counts.specs.Bytes.{one as byteOf, two as twoOf, four as fourOf};
-ghost use Rattle.trailer.specs.Profile.{blankProfile, Medium};
-ghost use Rattle.trailer.specs.Fields.{ShapeIs, TimesIs, profileOf};
+ghost use Rattle.trailer.specs.Fields.{ShapeIs, TimesIs, profileOf, zerosB};
 ghost use Rattle.trailer.specs.Bytes.{trailerOf};
-ghost use Rattle.trailer.specs.General.{offsetOption, motorOption, removable as removableB, soft as softB, generalOk};
-ghost use Rattle.trailer.specs.Valid.{sectorOk, validB, zerosB};
 
-#[repr(C)]
-pub struct Shape {
-    pub cylinders: Cylinder,
-    pub heads: Head,
-    pub track: Position,
-    pub sector: Position,
-}
+// The length of a trailer.
+pub const LENGTH: usize = 44;
 
-#[repr(C)]
-pub struct Times {
-    pub settle: Micros,
-    pub step: Micros,
-    pub switch: Micros,
-    pub recalibrate: Micros,
-    pub start: Micros,
-    pub diagnostic: Micros,
-    pub offset: Micros,
-}
-
-#[repr(C)]
-pub struct Profile {
-    pub slot: u8,
-    pub vendor: u8,
-    pub general: u16,
-    pub gap: u8,
-    pub sync: u8,
-    pub protected: u8,
-    pub shape: Shape,
-    pub times: Times,
-}
-
-impl Profile {
-    // The length of a trailer.
-    pub const TRAILER: usize = 44;
-
-    // The form that a trailer names.
-    pub const FORM: u8 = 1;
-
-    // What stands where no drive is: all zeros.
-    pub fn blank() -> Profile
-        ensures { λ r. ⌜ r ≡ blankProfile ⌝ }
-    {
-        let none = Micros(0);
-        let shape = Shape {
-            cylinders: Cylinder(0),
-            heads: Head(0),
-            track: Position(0),
-            sector: Position(0),
-        };
-        let times = Times {
-            settle: none,
-            step: none,
-            switch: none,
-            recalibrate: none,
-            start: none,
-            diagnostic: none,
-            offset: none,
-        };
-        Profile {
-            slot: 0,
-            vendor: 0,
-            general: 0,
-            gap: 0,
-            sync: 0,
-            protected: 0,
-            shape,
-            times,
-        }
-    }
-}
+// The form that a trailer names.
+pub const FORM: u8 = 1;
 
 // A byte of a trailer; past the end it reads 0, so nothing is asked of the caller.
 fn byte(t: &[u8], k: usize) -> u8
@@ -194,84 +129,6 @@ pub fn profile_of(t: &[u8]) -> Profile
     }
 }
 
-fn product(cylinders: u16, heads: u8, track: u16) -> usize
-    ensures { λ r. ⌜ (r ≡ cylinders * heads * track) × (r < 1099511627776) ⌝ }
-{
-    (cylinders as usize) * (heads as usize) * (track as usize)
-}
-
-// The bytes of a pack's medium.
-pub fn medium(s: Shape) -> usize
-    ensures { λ r. ⌜ Medium s r ⌝ }
-{
-    product(s.cylinders.0, s.heads.0, s.track.0)
-}
-
-pub fn has_offset_option(general: u16) -> bool
-    ensures { λ r. ⌜ r ≡ offsetOption general ⌝ }
-{
-    general / 8192 % 2 == 1
-}
-
-pub fn has_motor_option(general: u16) -> bool
-    ensures { λ r. ⌜ r ≡ motorOption general ⌝ }
-{
-    general / 32 % 2 == 1
-}
-
-pub fn removable(general: u16) -> bool
-    ensures { λ r. ⌜ r ≡ removableB general ⌝ }
-{
-    general / 128 % 2 == 1
-}
-
-pub fn soft(general: u16) -> bool
-    ensures { λ r. ⌜ r ≡ softB general ⌝ }
-{
-    general / 4 % 2 == 1
-}
-
-fn general_ok(w: u16, switch: u32) -> bool
-    ensures { λ r. ⌜ r ≡ generalOk w switch ⌝ }
-{
-    (w < 32768)
-        & (w / 4096 % 2 == 0)
-        & (w / 1024 % 2 + w / 512 % 2 + w / 256 % 2 == 1)
-        & (w / 128 % 2 + w / 64 % 2 == 1)
-        & ((w / 16 % 2 == 1) == (15 < switch))
-        & (w / 4 % 2 + w / 2 % 2 + w / 1 % 2 == 1)
-}
-
-// Whether a sector size may stand.
-pub fn sector_ok(soft: bool, size: u16) -> bool
-    ensures { λ r. ⌜ r ≡ sectorOk soft size ⌝ }
-{
-    if soft {
-        return size == 0;
-    }
-    (162 <= size) & (size <= 4095)
-}
-
-// Whether every field is one that may stand.
-pub fn valid(p: Profile) -> bool
-    ensures { λ r. ⌜ r ≡ validB p ⌝ }
-{
-    ((1 <= p.slot) & (p.slot <= 7))
-        & general_ok(p.general, p.times.switch.0)
-        & ((1 <= p.shape.cylinders.0) & (p.shape.cylinders.0 <= 4096))
-        & ((1 <= p.shape.heads.0) & (p.shape.heads.0 <= 16))
-        & ((4095 <= p.shape.track.0) & (p.shape.track.0 <= 40960))
-        & sector_ok(soft(p.general), p.shape.sector.0)
-        & (p.protected <= 1)
-        & (p.times.settle.0 <= 60000)
-        & (p.times.step.0 <= 1000)
-        & (p.times.switch.0 <= 60000)
-        & (p.times.recalibrate.0 <= 30000000)
-        & (p.times.start.0 <= 30000000)
-        & (p.times.diagnostic.0 <= 30000000)
-        & (p.times.offset.0 <= 60000)
-}
-
 // The 44 bytes of a trailer, high byte first.
 pub fn trailer(p: Profile, distance: u32) -> [u8; 44]
     ensures { λ r. ⌜ r ≡ trailerOf p distance ⌝ }
@@ -316,7 +173,7 @@ pub fn trailer(p: Profile, distance: u32) -> [u8; 44]
         (p.times.offset.0 / 256 % 256) as u8,
         (p.times.offset.0 % 256) as u8,
         0,
-        Profile::FORM,
+        FORM,
         (distance / 16777216 % 256) as u8,
         (distance / 65536 % 256) as u8,
         (distance / 256 % 256) as u8,

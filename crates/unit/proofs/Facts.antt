@@ -1,16 +1,16 @@
 -- What the tests on one drive's record give as facts.
-use mathlib.Core.Path.{_≡_, refl}
+use mathlib.Core.Path.{_≡_}
 use mathlib.Core.Bool.{Bool, true, false, _||_, not, false≢true}
 use native.Mathlib.Omega.{arith}
 use borrow.Author.Tests.{eqb-true, ne-eqb}
 use lib.Dec.{eqb}
-use Rattle.counts.specs.Choice.{if_then_else_}
+use Rattle.counts.proofs.Choice.{guarded}
 use Rattle.counts.proofs.Tests.{each}
-use Rattle.trailer.specs.declared.Profile.{Profile}
+use Rattle.profile.specs.declared.Profile.{Profile}
 use Rattle.handshake.specs.Left.{leftB}
 use Rattle.drive.specs.declared.State.{State}
 use Rattle.drive.specs.Status.{attentionB}
-use Rattle.drive.specs.Gates.{usableB}
+use Rattle.gates.specs.Gates.{usableB}
 use Rattle.drive.specs.Limits.{limitsB}
 use Rattle.unit.specs.declared.Lines.{Lines}
 use Rattle.unit.specs.Sound.{writingTests, writingB, readingTests, readingB, selectedTests, selectedB, soundB}
@@ -22,10 +22,6 @@ pub record Selected (p : Profile) (l : Lines) (s : State) : Type 0 where
   pub left : leftB (l .request) (s .transfer) ≡ true
   pub writing : writingB p l s ≡ true
   pub reading : readingB p l s ≡ true
-
-guarded : (a b : Bool) → (if not a then false else b) ≡ true → (a ≡ true) × (b ≡ true)
-guarded true b h = (refl, h)
-guarded false b h = absurd (false≢true h)
 
 pub selected : (p : Profile) (l : Lines) (s : State) → soundB p l true s ≡ true → Selected p l s
 unfolding soundB selectedB

@@ -1,3 +1,4 @@
+pub mod Lines
 pub mod Request
 pub mod Sum
 pub mod Sound

@@ -1,7 +1,7 @@
 -- "Handshake .., selected drive only": what request's edges do to a drive.
 use mathlib.Core.Bool.{Bool, _||_}
 use lib.Dec.{eqb}
-use Rattle.trailer.specs.declared.Profile.{Profile}
+use Rattle.profile.specs.declared.Profile.{Profile}
 use Rattle.handshake.specs.declared.Transfer.{Transfer}
 use Rattle.handshake.specs.declared.Edge.{Edge}
 use Rattle.handshake.specs.declared.Edge.the-variants.{Keep, Drop, Carry}
@@ -13,7 +13,7 @@ use Rattle.drive.specs.declared.Outcome.the-variants.{Done, Fault}
 use Rattle.drive.specs.declared.Ruled.{Ruled}
 use Rattle.drive.specs.State.{stateOf, ruled}
 use Rattle.drive.specs.Status.{calmB}
-use Rattle.drive.specs.Time.{droppedOf}
+use Rattle.rules.specs.Time.{droppedOf}
 use Rattle.word.specs.declared.Carried.{Carried}
 use Rattle.word.specs.declared.Told.{Told}
 use Rattle.word.specs.declared.Told.the-variants.{Nothing, Word}
@@ -28,17 +28,17 @@ afterWord (Word response) = respondingWith response
 abbrev pub carriedOut : Carried → Ruled
 carriedOut c = ruled (c .outcome) (stateOf (c .body) (afterWord (c .told)))
 
-abbrev pub metOf : Profile → Body → Edge → Ruled
-metOf p b (Keep t) = ruled Done (stateOf b t)
-metOf p b Drop = ruled Fault (droppedOf b)
-metOf p b (Carry n) = carriedOut (carryOf p b n)
+abbrev pub edgeOf : Profile → Body → Edge → Ruled
+edgeOf p b (Keep t) = ruled Done (stateOf b t)
+edgeOf p b Drop = ruled Fault (droppedOf b)
+edgeOf p b (Carry n) = carriedOut (carryOf p b n)
 
 -- "either gate on"
 abbrev pub gatedB : Lines → Bool
 gatedB l = eqb (l .writegate) 1 || eqb (l .readgate) 1
 
 unfoldable pub requestRises : Profile → Lines → State → Ruled
-requestRises p l s = metOf p (s .body) (riseOf (gatedB l) (calmB (s .body)) (l .command) (s .transfer))
+requestRises p l s = edgeOf p (s .body) (riseOf (gatedB l) (calmB (s .body)) (l .command) (s .transfer))
 
 unfoldable pub requestFalls : Profile → State → Ruled
-requestFalls p s = metOf p (s .body) (fallOf (s .transfer))
+requestFalls p s = edgeOf p (s .body) (fallOf (s .transfer))

@@ -4,11 +4,11 @@ use mathlib.Core.List.{List, [], _∷_}
 use lib.Dec.{leb, eqb}
 use Rattle.counts.specs.Choice.{if_then_else_}
 use Rattle.counts.specs.Tests.{allOf}
-use Rattle.trailer.specs.declared.Profile.{Profile}
+use Rattle.profile.specs.declared.Profile.{Profile}
 use Rattle.handshake.specs.Left.{noneB, leftB}
 use Rattle.drive.specs.declared.State.{State}
 use Rattle.drive.specs.Status.{attentionB}
-use Rattle.drive.specs.Gates.{usableB}
+use Rattle.gates.specs.Gates.{usableB}
 use Rattle.drive.specs.Limits.{limitsB}
 use Rattle.unit.specs.declared.Lines.{Lines}
 

@@ -5,14 +5,14 @@ use drive::Outcome;
 use drive::Ruled;
 use drive::State;
 use drive::status;
-use drive::time;
 use handshake::Edge;
 use handshake::Transfer;
-use trailer::Profile;
+use profile::Profile;
+use rules::time;
 use word::Carried;
 use word::Told;
 ghost use mathlib.Core.Path.{_≡_};
-ghost use Rattle.unit.specs.Request.{afterWord, carriedOut, metOf, gatedB, requestRises, requestFalls};
+ghost use Rattle.unit.specs.Request.{afterWord, carriedOut, edgeOf, gatedB, requestRises, requestFalls};
 
 // The response is fixed, or there is none and the transfer ends.
 fn after_word(told: Told) -> Transfer
@@ -39,7 +39,7 @@ fn carried_out(c: Carried) -> Ruled
 
 // What an edge of the handshake does to the drive.
 fn met(p: Profile, b: Body, edge: Edge) -> Ruled
-    ensures { λ r. ⌜ r ≡ metOf p b edge ⌝ }
+    ensures { λ r. ⌜ r ≡ edgeOf p b edge ⌝ }
 {
     match edge {
         Edge::Keep(transfer) => {

@@ -2,10 +2,9 @@
 use crate::Lines;
 use drive::Body;
 use drive::State;
-use drive::gates;
 use drive::limits;
 use drive::status;
-use trailer::Profile;
+use profile::Profile;
 ghost use mathlib.Core.Path.{_≡_};
 ghost use Rattle.unit.specs.Sound.{linesB, writingB, readingB, selectedB, unselectedB, soundB};
 
@@ -63,7 +62,7 @@ pub fn sound(p: Profile, s: State, l: Lines, selected: bool) -> bool
     ensures { λ r. ⌜ r ≡ soundB p l selected s ⌝ }
 {
     let b = s.body;
-    if !limits::keeps(p, b) {
+    if !limits::kept(p, b) {
         return false;
     }
     if selected {

@@ -3,7 +3,7 @@ use mathlib.Core.Path.{_≡_, refl}
 use mathlib.Core.Bool.{true}
 use Prim.Native.Nat.{ℕ, _<_}
 use native.Mathlib.Omega.{arith}
-use Rattle.trailer.specs.declared.Profile.{Profile}
+use Rattle.profile.specs.declared.Profile.{Profile}
 use Rattle.drive.specs.declared.Body.{Body}
 use Rattle.drive.specs.declared.Outcome.the-variants.{Fault}
 use Rattle.drive.specs.Status.{calmB, statusOf}

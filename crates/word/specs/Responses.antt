@@ -4,8 +4,8 @@ use mathlib.Core.Bool.{Bool, not}
 use lib.Dec.{eqb}
 use Rattle.counts.specs.declared.Position.{Position}
 use Rattle.counts.specs.Choice.{if_then_else_}
-use Rattle.trailer.specs.declared.Profile.{Profile}
-use Rattle.trailer.specs.General.{removable, soft}
+use Rattle.profile.specs.declared.Profile.{Profile}
+use Rattle.profile.specs.General.{removable, soft}
 
 -- "if .., else 0"
 abbrev pub when : Bool → ℕ → ℕ

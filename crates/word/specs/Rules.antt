@@ -3,8 +3,8 @@ use Prim.Native.Nat.{ℕ}
 use mathlib.Core.Bool.{Bool, _||_, not}
 use lib.Dec.{eqb}
 use Rattle.counts.specs.Choice.{if_then_else_}
-use Rattle.trailer.specs.declared.Profile.{Profile}
-use Rattle.trailer.specs.declared.Times.{Times}
+use Rattle.profile.specs.declared.Profile.{Profile}
+use Rattle.profile.specs.declared.Times.{Times}
 use Rattle.drive.specs.declared.Body.{Body}
 use Rattle.drive.specs.declared.State.{State}
 use Rattle.drive.specs.declared.Outcome.{Outcome}

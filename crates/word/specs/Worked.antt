@@ -1,7 +1,7 @@
 -- "Worked values": a single table, each line on a fresh drive.
 use Prim.Native.Nat.{ℕ, _+_, _*_, _^_}
 use mathlib.Core.List.{List, [], _∷_}
-use Rattle.trailer.specs.declared.Profile.{Profile}
+use Rattle.profile.specs.declared.Profile.{Profile}
 use Rattle.drive.specs.State.{freshOf}
 use Rattle.word.specs.declared.Answered.{Answered}
 use Rattle.word.specs.declared.Told.{Told}

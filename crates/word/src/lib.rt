@@ -10,8 +10,8 @@ use drive::Outcome;
 use drive::State;
 use drive::faults;
 use drive::status;
-use trailer::Profile;
-use trailer::Times;
+use profile::Profile;
+use profile::Times;
 ghost use mathlib.Core.Path.{_≡_};
 ghost use Rattle.word.specs.Rules.{failing, saying, doing, doneOf, carryOf, refusesB, refused, answers, plainOf};
 

@@ -1,6 +1,6 @@
 // What a word is answered.
 use counts::Position;
-use trailer::Profile;
+use profile::Profile;
 ghost use mathlib.Core.Path.{_≡_};
 ghost use Rattle.command.specs.Word.{withParity};
 ghost use Rattle.word.specs.Responses.{when as whenOf, headsOf, sectorsOf, configurationOf};
@@ -43,11 +43,11 @@ fn sectors(track: u16, size: u16) -> u16
 }
 
 // Configuration by modifier, with the sector size now in force.
-pub fn configuration(p: Profile, sector: Position, modifier: u8) -> u16
+pub(crate) fn configuration(p: Profile, sector: Position, modifier: u8) -> u16
     ensures { λ r. ⌜ r ≡ configurationOf p sector modifier ⌝ }
 {
-    let removable = trailer::removable(p.general);
-    let size = when(!trailer::soft(p.general), sector.0);
+    let removable = profile::general::removable(p.general);
+    let size = when(!profile::general::soft(p.general), sector.0);
     match modifier {
         0 => p.general,
         1 => when(!removable, p.shape.cylinders.0),

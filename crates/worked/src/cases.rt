@@ -20,6 +20,12 @@ use crate::lines::send;
 use crate::lines::send_bits;
 use crate::lines::title;
 
+fn each(drive: u8, how: u8, words: &[u16]) {
+    for i in 0..words.len() {
+        send(drive, how, words[i]);
+    }
+}
+
 // Sixteen words, each a step above the one before.
 fn sixteen(drive: u8, how: u8, first: u16, step: u16) {
     let mut w = first;
@@ -43,12 +49,11 @@ pub fn configurations() {
 // Command 9 over its range.
 pub fn sector_sizes() {
     title(b"sector sizes");
-    send(HARD, FRESH, 0x9000);
-    send(HARD, FRESH, 0x90A1);
-    send(HARD, FRESH, 0x90A2);
-    send(HARD, FRESH, 0x9242);
-    send(HARD, FRESH, 0x9264);
-    send(HARD, FRESH, 0x9FFF);
+    each(
+        HARD,
+        FRESH,
+        &[0x9000, 0x90A1, 0x90A2, 0x9242, 0x9264, 0x9FFF],
+    );
     send(HARD, STOPPED, 0x9264);
     send(HARD, LOST, 0x9264);
     send(SOFT, FRESH, 0x90A2);
@@ -62,36 +67,35 @@ pub fn codes() {
 
 pub fn seeks() {
     title(b"seeks");
-    send(HARD, FRESH, 0x0000);
-    send(HARD, FRESH, 0x0001);
-    send(HARD, FRESH, 0x04E1);
-    send(HARD, FRESH, 0x04E2);
-    send(HARD, FRESH, 0x0FFF);
-    send(HARD, AWAY, 0x03E8);
-    send(HARD, AWAY, 0x03E7);
-    send(HARD, AWAY, 0x04E1);
-    send(HARD, AWAY, 0x04E2);
+    each(HARD, FRESH, &[0x0000, 0x0001, 0x04E1, 0x04E2, 0x0FFF]);
+    each(HARD, AWAY, &[0x03E8, 0x03E7, 0x04E1, 0x04E2]);
 }
 
 // Each command's first invalid neighbours.
 pub fn neighbours() {
     title(b"neighbours");
-    send(HARD, FRESH, 0x1001);
-    send(HARD, FRESH, 0x1100);
-    send(HARD, FRESH, 0x2001);
-    send(HARD, FRESH, 0x2100);
-    send(HARD, FRESH, 0x3001);
-    send(HARD, FRESH, 0x3F80);
-    send(HARD, FRESH, 0x5001);
-    send(HARD, FRESH, 0x5100);
-    send(HARD, FRESH, 0x5201);
-    send(HARD, FRESH, 0x5301);
-    send(HARD, FRESH, 0x5400);
-    send(HARD, FRESH, 0x7001);
-    send(HARD, FRESH, 0x7400);
-    send(HARD, FRESH, 0x7F00);
-    send(HARD, FRESH, 0x8001);
-    send(HARD, FRESH, 0x8100);
+    each(
+        HARD,
+        FRESH,
+        &[
+            0x1001,
+            0x1100,
+            0x2001,
+            0x2100,
+            0x3001,
+            0x3F80,
+            0x5001,
+            0x5100,
+            0x5201,
+            0x5301,
+            0x5400,
+            0x7001,
+            0x7400,
+            0x7F00,
+            0x8001,
+            0x8100,
+        ],
+    );
 }
 
 // Options present and missing.
@@ -99,17 +103,9 @@ pub fn options() {
     title(b"options");
     send(HARD, FRESH, 0x5200);
     send(HARD, FRESH, 0x5300);
-    send(HARD, AWAY, 0x7000);
-    send(HARD, AWAY, 0x7100);
-    send(HARD, AWAY, 0x7200);
-    send(HARD, AWAY, 0x7300);
-    send(BARE, FRESH, 0x5000);
-    send(BARE, FRESH, 0x5200);
-    send(BARE, FRESH, 0x5300);
-    send(BARE, AWAY, 0x7000);
-    send(BARE, AWAY, 0x7100);
-    send(BARE, AWAY, 0x7200);
-    send(BARE, AWAY, 0x7300);
+    each(HARD, AWAY, &[0x7000, 0x7100, 0x7200, 0x7300]);
+    each(BARE, FRESH, &[0x5000, 0x5200, 0x5300]);
+    each(BARE, AWAY, &[0x7000, 0x7100, 0x7200, 0x7300]);
     send(BARE, FRESH, 0x90A2);
     send(SOFT, FRESH, 0x5200);
     send(SOFT, FRESH, 0x7200);
@@ -141,15 +137,21 @@ pub fn order() {
 
 pub fn stopped() {
     title(b"not ready");
-    send(HARD, STOPPED, 0x0000);
-    send(HARD, STOPPED, 0x1000);
-    send(HARD, STOPPED, 0x7000);
-    send(HARD, STOPPED, 0x7200);
-    send(HARD, STOPPED, 0x3000);
-    send(HARD, STOPPED, 0x5000);
-    send(HARD, STOPPED, 0x5200);
-    send(HARD, STOPPED, 0x5300);
-    send(HARD, STOPPED, 0x8000);
+    each(
+        HARD,
+        STOPPED,
+        &[
+            0x0000,
+            0x1000,
+            0x7000,
+            0x7200,
+            0x3000,
+            0x5000,
+            0x5200,
+            0x5300,
+            0x8000,
+        ],
+    );
     send(REMOVABLE, STOPPED, 0x5300);
 }
 
@@ -167,13 +169,11 @@ pub fn starting() {
 
 pub fn lost() {
     title(b"lost");
-    send(HARD, LOST, 0x0000);
-    send(HARD, LOST, 0x1000);
-    send(HARD, LOST, 0x7000);
-    send(HARD, LOST, 0x7300);
-    send(HARD, LOST, 0x5200);
-    send(HARD, LOST, 0x5300);
-    send(HARD, LOST, 0x8000);
+    each(
+        HARD,
+        LOST,
+        &[0x0000, 0x1000, 0x7000, 0x7300, 0x5200, 0x5300, 0x8000],
+    );
 }
 
 // Command complete false, or a drive that reads or writes.

@@ -9,9 +9,9 @@ use drive::Latched;
 use drive::State;
 use drive::Timers;
 use handshake::Transfer;
-use trailer::Profile;
-use trailer::Shape;
-use trailer::Times;
+use profile::Profile;
+use profile::Shape;
+use profile::Times;
 
 // 003's 3180E with the options jumpered, hard sectored.
 pub const HARD: u8 = 0;

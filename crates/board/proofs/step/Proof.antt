@@ -1,18 +1,11 @@
--- `board::step` meets its contract: what is judged is obeyed on the file and put into the record.
-use mathlib.Core.Path.{_∙_}
-use Rattle.judge.proofs.Fits.{judged-fits}
-use Rattle.board.specs.Step.{stepOf, stepFile}
+-- `board::step` meets its contract: what is performed on the file is put into the record.
+use Rattle.board.specs.Step.{performOf, stepOf}
 use borrow.Author.Needs.{needs}
 use Rattle.board.proofs.step.Statement.{statement}
 use Rattle.board.proofs.step.Tie as tie
 
-judge-requires : tie.Need-judge-requires
-judge-requires c κs = search needs
-
-obey-requires : tie.Need-obey-requires
-obey-requires c κs =
-    let a = c .before .before .before .args in
-    rw (c .before .judge .ensures) (judged-fits (a .c) _ (a .kind) (a .a) (a .b))
+perform-requires : tie.Need-perform-requires
+perform-requires c κs = search needs
 
 apply-requires : tie.Need-apply-requires
 apply-requires c κs = search needs
@@ -21,11 +14,10 @@ same-length : tie.Need-same-length
 same-length c = search needs
 
 returns : tie.Need-returns
-unfolding stepOf stepFile
+unfolding performOf stepOf
 returns c =
-    let o = c .before .before .before in
-    let j = o .before .before in
-    (simp (c .apply .ensures, o .obey .ensures .is, j .judge .ensures), o .obey .ensures .holds ∙ simp (j .judge .ensures))
+    let p = c .before .before .before .before in
+    (simp (c .apply .ensures, p .perform .ensures .0), p .perform .ensures .1)
 
 pub step-spec : {M : Type 1} → statement M
-step-spec = tie.close (tie.spec judge-requires obey-requires apply-requires same-length returns)
+step-spec = tie.close (tie.spec perform-requires apply-requires same-length returns)

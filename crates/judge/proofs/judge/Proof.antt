@@ -3,7 +3,7 @@ use borrow.Author.Needs.{needs}
 use Rattle.judge.proofs.judge.Statement.{statement}
 use Rattle.judge.proofs.judge.Tie as tie
 use Rattle.decision.proofs.say.Reads as say-reads
-use Rattle.event.proofs.decode.Reads as decode-reads
+use Rattle.event.proofs.decode.decode.Reads as decode-reads
 use Rattle.judge.proofs.allowed.Reads as allowed-reads
 
 decode-requires : tie.Need-decode-requires

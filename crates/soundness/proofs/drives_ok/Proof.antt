@@ -7,7 +7,7 @@ use borrow.Author.Tests.{not-true, not-false}
 use lib.ListN.{length, drop}
 use Rattle.counts.specs.Slots.{allWith}
 use Rattle.soundness.specs.Sound.{driveB}
-use Rattle.record.proofs.Loops.{all-fails, all-more, all-done}
+use Rattle.counts.proofs.Loops.{all-fails, all-more, all-done}
 use Rattle.soundness.proofs.drives_ok.Statement.{statement}
 use Rattle.soundness.proofs.drives_ok.Tie as tie
 

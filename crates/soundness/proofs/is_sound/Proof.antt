@@ -12,6 +12,9 @@ returns : tie.Need-returns
 unfolding soundB
 returns c = simp (← c .before .lines-ok .ensures, not-true (c .before .lines-ok .result) (c .if1 .taken))
 
+cast-if2 : tie.Need-cast-if2
+cast-if2 c = search needs
+
 returns-2 : tie.Need-returns-2
 unfolding soundB
 returns-2 c =
@@ -48,6 +51,7 @@ is-sound-spec =
     (tie.spec
     lines-ok-requires
     returns
+    cast-if2
     returns-2
     places-ok-requires
     returns-3

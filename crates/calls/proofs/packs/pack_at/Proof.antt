@@ -1,7 +1,7 @@
 -- `calls::packs::pack_at` meets its contract: each return rewrites with the tests that led there.
 use Rattle.calls.specs.Packs.{packOf}
 use borrow.Author.Needs.{needs}
-use borrow.Author.Tests.{lt-ltb, le-ltb, le-leb, lt-leb}
+use borrow.Author.Tests.{lt-ltb, le-ltb}
 use Rattle.calls.proofs.packs.pack_at.Statement.{statement}
 use Rattle.calls.proofs.packs.pack_at.Tie as tie
 
@@ -10,7 +10,7 @@ none-requires c κs = search needs
 
 returns : tie.Need-returns
 unfolding packOf
-returns c = simp (lt-leb _ _ (c .before .if1 .taken), lt-ltb _ _ (c .before .if1 .taken), c .none .ensures)
+returns c = simp (lt-ltb _ _ (c .before .if1 .taken), c .none .ensures)
 
 read-requires : tie.Need-read-requires
 read-requires c κs = search needs
@@ -23,7 +23,7 @@ pack-in-requires c κs = search needs
 
 returns-2 : tie.Need-returns-2
 unfolding packOf
-returns-2 c = simp (le-ltb _ _ (c .before .before .before .if1 .left), le-leb _ _ (c .before .before .before .if1 .left), c .before .before .read .ensures, c .pack-in .ensures)
+returns-2 c = simp (le-ltb _ _ (c .before .before .before .if1 .left), c .before .before .read .ensures, c .pack-in .ensures)
 
 pub pack-at-spec : {M : Type 1} → statement M
 pack-at-spec =

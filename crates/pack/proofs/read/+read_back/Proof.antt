@@ -9,8 +9,8 @@ use lib.Seq.{length-take-le}
 use borrow.Fn.Kinds.{In}
 use borrow.Fn.PlainCycle.{Measures, is, falls, and}
 use Rattle.counts.specs.declared.Place.{Place}
-use Rattle.trailer.specs.declared.Profile.{Profile}
-use Rattle.trailer.proofs.Facts.{ranges}
+use Rattle.profile.specs.declared.Profile.{Profile}
+use Rattle.profile.proofs.Facts.{ranges}
 use Rattle.pack.specs.declared.read.Last.the-variants.{Found}
 use Rattle.pack.specs.Read.{lastPack}
 use Rattle.pack.proofs.Back.{good, reads-whole, reads-refused, reads-pack}

@@ -6,7 +6,7 @@ use borrow.Author.Needs.{needs}
 use borrow.Author.Tests.{lt-leb, le-leb}
 use lib.ListN.{length}
 use Rattle.record.specs.Apply.{putOf, passSlot, changedOf}
-use Rattle.record.proofs.Loops.{withTo, with-turn, with-done}
+use Rattle.counts.proofs.Loops.{withTo, with-turn, with-done}
 use Rattle.record.proofs.apply.changed.Statement.{statement}
 use Rattle.record.proofs.apply.changed.Tie as tie
 

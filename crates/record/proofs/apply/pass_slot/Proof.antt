@@ -1,20 +1,25 @@
 -- `record::apply::pass_slot` meets its contract: each return rewrites with the tests that led there.
 use Rattle.record.specs.Apply.{passSlot}
 use borrow.Author.Needs.{needs}
-use borrow.Author.Tests.{eq-eqb, ne-eqb}
+use borrow.Author.Tests.{not-true, not-false}
 use Rattle.record.proofs.apply.pass_slot.Statement.{statement}
 use Rattle.record.proofs.apply.pass_slot.Tie as tie
 
+fitted-requires : tie.Need-fitted-requires
+fitted-requires c κs = search needs
+
 returns : tie.Need-returns
 unfolding passSlot
-returns c = simp (ne-eqb _ _ (c .if1 .taken))
+returns c = simp (← c .before .fitted .ensures, not-true (c .before .fitted .result) (c .if1 .taken))
 
 pass-requires : tie.Need-pass-requires
 pass-requires c κs = search needs
 
 returns-2 : tie.Need-returns-2
 unfolding passSlot
-returns-2 c = simp (eq-eqb _ _ (c .before .before .if1 .left), c .before .pass .ensures)
+returns-2 c =
+    let b3 = c .before .before .before in
+    simp (← b3 .fitted .ensures, not-false (b3 .fitted .result) (c .before .before .if1 .left), c .before .pass .ensures)
 
 pub pass-slot-spec : {M : Type 1} → statement M
-pass-slot-spec = tie.close (tie.spec returns pass-requires returns-2)
+pass-slot-spec = tie.close (tie.spec fitted-requires returns pass-requires returns-2)

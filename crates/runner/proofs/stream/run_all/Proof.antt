@@ -1,23 +1,29 @@
--- `runner::stream::run_all` is safe and ends: the blocks keep their lengths, and the turns run down.
+-- `runner::stream::run_all` is safe and ends: the file keeps its length, and the turns run down.
 use Prim.Native.Nat.{_≤_}
 use mathlib.Core.Path.{_≡_}
 use lib.ListN.{length}
 use borrow.Author.Needs.{needs}
+use Rattle.runner.specs.Block.{block as blockLength}
 use Rattle.runner.proofs.stream.run_all.Statement.{statement}
 use Rattle.runner.proofs.stream.run_all.Tie as tie
 
 abbrev Inv-loop : tie.InvT-loop
-Inv-loop block₀ out₀ file₀ f₀ turns₀ block out file f turns =
-    (length block ≡ length block₀) × (length out ≡ length out₀) × (length file ≡ length file₀) × (f .run .at ≤ 65536)
+Inv-loop block₀ out₀ file₀ r₀ turns₀ block out file r turns = (length file ≡ length file₀) × (r .at ≤ blockLength)
 
 abbrev μ-loop : tie.MeasureT-loop
-μ-loop block₀ out₀ file₀ f₀ turns₀ block out file f turns = turns
+μ-loop block₀ out₀ file₀ r₀ turns₀ block out file r turns = turns
 
 loop-holds : tie.Need-loop-holds Inv-loop μ-loop
 loop-holds c = search needs
 
-turn-requires : tie.Need-turn-requires Inv-loop μ-loop
-turn-requires c κs = search needs
+flushed-requires : tie.Need-flushed-requires Inv-loop μ-loop
+flushed-requires c κs = search needs
+
+filled-requires : tie.Need-filled-requires Inv-loop μ-loop
+filled-requires c κs = search needs
+
+fed-requires : tie.Need-fed-requires Inv-loop μ-loop
+fed-requires c κs = search needs
 
 sub-turns : tie.Need-sub-turns Inv-loop μ-loop
 sub-turns c = search needs
@@ -31,23 +37,11 @@ loop-again c = search needs
 same-length : tie.Need-same-length Inv-loop μ-loop
 same-length c = search needs
 
-same-length-2 : tie.Need-same-length-2 Inv-loop μ-loop
-same-length-2 c = search needs
-
-same-length-3 : tie.Need-same-length-3 Inv-loop μ-loop
-same-length-3 c = search needs
-
 returns : tie.Need-returns Inv-loop μ-loop
 returns c = search needs
 
-same-length-4 : tie.Need-same-length-4 Inv-loop μ-loop
-same-length-4 c = search needs
-
-same-length-5 : tie.Need-same-length-5 Inv-loop μ-loop
-same-length-5 c = search needs
-
-same-length-6 : tie.Need-same-length-6 Inv-loop μ-loop
-same-length-6 c = search needs
+same-length-2 : tie.Need-same-length-2 Inv-loop μ-loop
+same-length-2 c = search needs
 
 returns-2 : tie.Need-returns-2 Inv-loop μ-loop
 returns-2 c = search needs
@@ -59,15 +53,13 @@ run-all-spec =
     Inv-loop
     μ-loop
     loop-holds
-    turn-requires
+    flushed-requires
+    filled-requires
+    fed-requires
     sub-turns
     loop-less
     loop-again
     same-length
-    same-length-2
-    same-length-3
     returns
-    same-length-4
-    same-length-5
-    same-length-6
+    same-length-2
     returns-2)

@@ -5,12 +5,12 @@ use borrow.Author.Tests.{not-true, not-false}
 use Rattle.unit.proofs.sound.sound.Statement.{statement}
 use Rattle.unit.proofs.sound.sound.Tie as tie
 
-keeps-requires : tie.Need-keeps-requires
-keeps-requires c κs = search needs
+kept-requires : tie.Need-kept-requires
+kept-requires c κs = search needs
 
 returns : tie.Need-returns
 unfolding soundB
-returns c = simp (← c .before .keeps .ensures, not-true (c .before .keeps .result) (c .if1 .taken))
+returns c = simp (← c .before .kept .ensures, not-true (c .before .kept .result) (c .if1 .taken))
 
 selected-ok-requires : tie.Need-selected-ok-requires
 selected-ok-requires c κs = search needs
@@ -20,7 +20,7 @@ unfolding soundB
 returns-2 c =
     let b2 = c .before .before in
     let b3 = b2 .before in
-    simp (← b3 .keeps .ensures, not-false (b3 .keeps .result) (b2 .if1 .left), c .before .if2 .taken, ← c .selected-ok .ensures)
+    simp (← b3 .kept .ensures, not-false (b3 .kept .result) (b2 .if1 .left), c .before .if2 .taken, ← c .selected-ok .ensures)
 
 unselected-ok-requires : tie.Need-unselected-ok-requires
 unselected-ok-requires c κs = search needs
@@ -30,13 +30,13 @@ unfolding soundB
 returns-3 c =
     let b2 = c .before .before in
     let b3 = b2 .before in
-    simp (← b3 .keeps .ensures, not-false (b3 .keeps .result) (b2 .if1 .left), c .before .if2 .left, ← c .unselected-ok .ensures)
+    simp (← b3 .kept .ensures, not-false (b3 .kept .result) (b2 .if1 .left), c .before .if2 .left, ← c .unselected-ok .ensures)
 
 pub sound-spec : {M : Type 1} → statement M
 sound-spec =
     tie.close
     (tie.spec
-    keeps-requires
+    kept-requires
     returns
     selected-ok-requires
     returns-2

@@ -1,0 +1,8 @@
+-- What the functions that C calls answer.
+use Prim.Native.Nat.{ℕ, _+_, _*_}
+use Rattle.event.specs.declared.Answer.{Answer}
+use Rattle.event.specs.Answer.{numberOf, valueOf}
+
+-- the answer's number in the low byte, its value in the next
+abbrev pub answerCode : Answer → ℕ
+answerCode a = numberOf a + valueOf a * 256

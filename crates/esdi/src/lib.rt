@@ -1,0 +1,127 @@
+// What C calls: the record and the file lent, the answer as a number.
+use board::Performed;
+use calls::Coded;
+use pack::Pack;
+use profile::Profile;
+use record::Chain;
+use record::apply;
+ghost use mathlib.Core.Path.{_≡_};
+ghost use lib.ListN.{length};
+ghost use Rattle.laying.specs.Lay.{laidNumber, laidAnswer, laidBytes};
+ghost use Rattle.chain.specs.Shown.{lineSum};
+ghost use Rattle.calls.specs.Fit.{fitOf};
+ghost use Rattle.calls.specs.Packs.{packsOf, packOf};
+ghost use Rattle.words.specs.Words.{wordOf};
+ghost use Rattle.marks.specs.Marks.{markedChain};
+ghost use Rattle.record.specs.Apply.{applied};
+ghost use Rattle.board.specs.Step.{stepOf, stepFile};
+ghost use Rattle.esdi.specs.Call.{answerCode};
+
+// The record with what was decided put into it.
+fn changed(c: Chain, p: Performed) -> Chain
+    ensures { λ r. ⌜ r ≡ applied c (p .decision) ⌝ }
+{
+    let d = p.decision;
+    apply::apply(c, d)
+}
+
+// The answer's number in the low byte, its value in the next.
+fn answer_code(p: Performed) -> u32
+    ensures { λ r. ⌜ r ≡ answerCode (p .answer) ⌝ }
+{
+    let answer = p.answer;
+    event::numbers::number(answer) as u32 + event::numbers::value(answer) as u32 * 256
+}
+
+fn chain_of(t: Coded) -> Chain
+    ensures { λ r. ⌜ r ≡ t .chain ⌝ }
+{
+    t.chain
+}
+
+fn code_of(t: Coded) -> u64
+    ensures { λ r. ⌜ r ≡ t .code ⌝ }
+{
+    t.code
+}
+
+// An event on the lent record and file. A decision is small: the record is copied in and stored back once.
+#[no_mangle]
+pub extern "C" fn esdi_event<'a, 'b>(
+    c: &'a mut Chain,
+    file: &'b mut [u8],
+    kind: u32,
+    a: u32,
+    b: u32,
+) -> u32
+    ensures { λ r. ⌜ (now (c .exit) ≡ stepOf kind a b (now (c .entry)) (now (file .entry)) .chain)
+        × ((r ≡ answerCode (stepOf kind a b (now (c .entry)) (now (file .entry)) .answer)) × (now (file .exit) ≡ stepFile kind a b (now (c .entry)) (now (file .entry)))) ⌝ }
+{
+    let old = *c;
+    let performed = board::perform(old, file, kind, a, b);
+    *c = changed(old, performed);
+    answer_code(performed)
+}
+
+// A chain fitted from a pack file into the lent record.
+#[no_mangle]
+pub extern "C" fn esdi_fit<'a, 'b>(c: &'a mut Chain, file: &'b [u8]) -> u64
+    ensures { λ r. ⌜ (now (c .exit) ≡ fitOf (now (c .entry)) (now (file .entry)) .chain) × (r ≡ fitOf (now (c .entry)) (now (file .entry)) .code) ⌝ }
+{
+    let old = *c;
+    let fitted = calls::fit::fit(old, file);
+    *c = chain_of(fitted);
+    code_of(fitted)
+}
+
+// A word to a slot of the lent record.
+#[no_mangle]
+pub extern "C" fn esdi_word(c: &mut Chain, slot: u32, word: u32) -> u64
+    ensures { λ r. ⌜ (now (c .exit) ≡ wordOf (now (c .entry)) slot word .chain) × (r ≡ wordOf (now (c .entry)) slot word .code) ⌝ }
+{
+    let old = *c;
+    let sent = words::word(old, slot, word);
+    *c = chain_of(sent);
+    code_of(sent)
+}
+
+// What the selected drive of the lent record shows.
+#[no_mangle]
+pub extern "C" fn esdi_lines(c: &mut Chain) -> u8
+    ensures { λ r. ⌜ (now (c .exit) ≡ now (c .entry)) × (r ≡ lineSum (now (c .entry))) ⌝ }
+{
+    let old = *c;
+    chain::shown::line_sum(old)
+}
+
+// The lent record filled with marks.
+#[no_mangle]
+pub extern "C" fn esdi_marks(c: &mut Chain)
+    ensures { λ _. ⌜ now (c .exit) ≡ markedChain ⌝ }
+{
+    *c = marks::marked();
+}
+
+// The status of a pack file.
+#[no_mangle]
+pub extern "C" fn esdi_packs(file: &[u8]) -> u64
+    ensures { λ r. ⌜ r ≡ packsOf (now (file .entry)) ⌝ }
+{
+    calls::packs::packs(file)
+}
+
+// The pack in a slot of a pack file.
+#[no_mangle]
+pub extern "C" fn esdi_pack_at(file: &[u8], slot: u32) -> Pack
+    ensures { λ r. ⌜ r ≡ packOf (now (file .entry)) slot ⌝ }
+{
+    calls::packs::pack_at(file, slot)
+}
+
+// A pack laid at the start of the lent part.
+#[no_mangle]
+pub extern "C" fn esdi_lay(part: &mut [u8], p: Profile) -> u32
+    ensures { λ r. ⌜ (r ≡ laidNumber (laidAnswer p (length (now (part .entry))))) × (now (part .exit) ≡ laidBytes p (now (part .entry))) ⌝ }
+{
+    calls::packs::laid(p, part)
+}

@@ -1,0 +1,62 @@
+-- "The plain word rules are these, given a drive and a word with its parity bit at once": the drive of a slot of the record.
+use Prim.Native.Nat.{ℕ, _+_, _*_}
+use mathlib.Core.Bool.{not}
+use lib.Dec.{ltb}
+use Rattle.counts.specs.Choice.{if_then_else_}
+use Rattle.profile.specs.declared.Profile.{Profile}
+use Rattle.drive.specs.declared.State.{State}
+use Rattle.drive.specs.declared.Outcome.{Outcome}
+use Rattle.drive.specs.declared.Outcome.the-variants as outcome
+use Rattle.word.specs.declared.Told.{Told}
+use Rattle.word.specs.declared.Told.the-variants as telling
+use Rattle.word.specs.Rules.{refusesB, carryOf, plainOf}
+use Rattle.event.specs.declared.Answer.the-variants.{Taken}
+use Rattle.record.specs.declared.Chain.{Chain}
+use Rattle.decision.specs.declared.Change.the-variants as change
+use Rattle.decision.specs.declared.Deed.the-variants as deed
+use Rattle.record.specs.Record.{slotPack, slotState}
+use Rattle.decision.specs.Decision.{fittedB}
+use Rattle.record.specs.Apply.{applied}
+use Rattle.soundness.specs.Sound.{soundB}
+use Rattle.calls.specs.declared.Coded.{Coded}
+
+-- "Refusals 19 to 25 change nothing"
+abbrev pub refusedWord : Chain → ℕ → Coded
+refusedWord c answer = record { chain = c; code = answer }
+
+-- "5 a fault rule applied, even if its bit stood already", else "0 taken"
+abbrev pub faultNumber : Outcome → ℕ
+faultNumber outcome.Done = 0
+faultNumber outcome.Inhibited = 0
+faultNumber outcome.Fault = 5
+
+-- "on a drive that reads or writes, or with command complete false, they latch bit 6 and stop", else as the word is carried out
+unfoldable pub outcomeOf : Profile → State → ℕ → Outcome
+outcomeOf p s n = if refusesB s then outcome.Fault else carryOf p (s .body) n .outcome
+
+-- the answer's number, 1 in the second byte where there is a response, and the response's seventeen bits in the high half
+abbrev pub wordCode : ℕ → Told → ℕ
+wordCode answer telling.Nothing = answer
+wordCode answer (telling.Word response) = answer + 256 + response * 4294967296
+
+-- the record with the state of a slot in place of what it was
+abbrev pub stateIn : Chain → ℕ → State → Chain
+stateIn c slot s = applied c (record { lines = c .lines; change = change.One slot s; deed = deed.Say Taken })
+
+unfoldable pub sentOf : Chain → Profile → State → ℕ → ℕ → Coded
+sentOf c p s slot n = record { chain = stateIn c slot (plainOf p s n .state); code = wordCode (faultNumber (outcomeOf p s n)) (plainOf p s n .told) }
+
+-- "22 chain record malformed", "24 .. for an empty slot"
+unfoldable pub wordAt : Chain → ℕ → ℕ → Coded
+wordAt c slot n =
+    if not (soundB c) then refusedWord c 22
+    else if not (fittedB (slotPack (c .packs) slot)) then refusedWord c 24
+    else sentOf c (slotPack (c .packs) slot .profile) (slotState (c .states) slot) slot n
+
+-- "21 operand out of range": a slot is 1 to 7, a word with its parity seventeen bits
+unfoldable pub wordOf : Chain → ℕ → ℕ → Coded
+wordOf c slot n =
+    if ltb slot 1 then refusedWord c 21
+    else if ltb 7 slot then refusedWord c 21
+    else if ltb 131_071 n then refusedWord c 21
+    else wordAt c slot n
