@@ -1,4 +1,4 @@
--- What the functions that C calls answer.
+-- What `esdi_event` answers.
 use Prim.Native.Nat.{ℕ, _+_, _*_}
 use Rattle.event.specs.declared.Answer.{Answer}
 use Rattle.event.specs.Answer.{numberOf, valueOf}

@@ -10,7 +10,8 @@ use Rattle.drive.specs.declared.Outcome.the-variants as outcome
 use Rattle.word.specs.declared.Told.{Told}
 use Rattle.word.specs.declared.Told.the-variants as telling
 use Rattle.word.specs.Rules.{refusesB, carryOf, plainOf}
-use Rattle.event.specs.declared.Answer.the-variants.{Taken}
+use Rattle.event.specs.declared.Answer.the-variants.{Taken, Fault, OutOfRange, Malformed, Inapplicable}
+use Rattle.event.specs.Answer.{numberOf}
 use Rattle.record.specs.declared.Chain.{Chain}
 use Rattle.decision.specs.declared.Change.the-variants as change
 use Rattle.decision.specs.declared.Deed.the-variants as deed
@@ -26,9 +27,9 @@ refusedWord c answer = record { chain = c; code = answer }
 
 -- "5 a fault rule applied, even if its bit stood already", else "0 taken"
 abbrev pub faultNumber : Outcome → ℕ
-faultNumber outcome.Done = 0
-faultNumber outcome.Inhibited = 0
-faultNumber outcome.Fault = 5
+faultNumber outcome.Done = numberOf Taken
+faultNumber outcome.Inhibited = numberOf Taken
+faultNumber outcome.Fault = numberOf Fault
 
 -- "on a drive that reads or writes, or with command complete false, they latch bit 6 and stop", else as the word is carried out
 unfoldable pub outcomeOf : Profile → State → ℕ → Outcome
@@ -49,14 +50,14 @@ sentOf c p s slot n = record { chain = stateIn c slot (plainOf p s n .state); co
 -- "22 chain record malformed", "24 .. for an empty slot"
 unfoldable pub wordAt : Chain → ℕ → ℕ → Coded
 wordAt c slot n =
-    if not (soundB c) then refusedWord c 22
-    else if not (fittedB (slotPack (c .packs) slot)) then refusedWord c 24
+    if not (soundB c) then refusedWord c (numberOf Malformed)
+    else if not (fittedB (slotPack (c .packs) slot)) then refusedWord c (numberOf Inapplicable)
     else sentOf c (slotPack (c .packs) slot .profile) (slotState (c .states) slot) slot n
 
 -- "21 operand out of range": a slot is 1 to 7, a word with its parity seventeen bits
 unfoldable pub wordOf : Chain → ℕ → ℕ → Coded
 wordOf c slot n =
-    if ltb slot 1 then refusedWord c 21
-    else if ltb 7 slot then refusedWord c 21
-    else if ltb 131_071 n then refusedWord c 21
+    if ltb slot 1 then refusedWord c (numberOf OutOfRange)
+    else if ltb 7 slot then refusedWord c (numberOf OutOfRange)
+    else if ltb 131_071 n then refusedWord c (numberOf OutOfRange)
     else wordAt c slot n
