@@ -1,4 +1,4 @@
 // The bus runner.
 fn main() {
-    runner::start();
+    bus_runner::start();
 }

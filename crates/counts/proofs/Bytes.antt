@@ -8,7 +8,7 @@ use lib.ListN.{length, getD}
 use Rattle.counts.specs.Bytes.{Bytes}
 
 -- a number is what its bytes say
-pub two-back : (v : ℕ) → v < 65536 → v / 256 % 256 * 256 + v % 256 ≡ v
+pub two-back : (v : ℕ) → v < 65_536 → v / 256 % 256 * 256 + v % 256 ≡ v
 two-back v h = omega arith
 
 -- the digits of v to the base 256, the quotients a, b, c given by name
@@ -16,10 +16,10 @@ joined : (v a b c : ℕ) → v / 256 ≡ a → a / 256 ≡ b → b / 256 ≡ c �
     → ((c % 256 * 256 + b % 256) * 256 + a % 256) * 256 + v % 256 ≡ v
 joined v a b c ea eb ec h = omega arith
 
-pub four-back : (v : ℕ) → v < 4294967296
-    → ((v / 16777216 % 256 * 256 + v / 65536 % 256) * 256 + v / 256 % 256) * 256 + v % 256 ≡ v
+pub four-back : (v : ℕ) → v < 4_294_967_296
+    → ((v / 16_777_216 % 256 * 256 + v / 65_536 % 256) * 256 + v / 256 % 256) * 256 + v % 256 ≡ v
 four-back v h =
-    joined v (v / 256) (v / 65536) (v / 16777216) refl (div-div-eq-div-mul v 256 256) (div-div-eq-div-mul v 65536 256) (omega arith)
+    joined v (v / 256) (v / 65_536) (v / 16_777_216) refl (div-div-eq-div-mul v 256 256) (div-div-eq-div-mul v 65_536 256) (omega arith)
 
 -- a list by its elements
 abbrev pub listed : ℕ → (ℕ → ℕ) → List ℕ
@@ -41,8 +41,8 @@ module _ (t : List ℕ) (small : Bytes t) where
   pub third-of-four : (x k l : ℕ) → ((x * 256 + getD t k 0) * 256 + getD t l 0) / 256 % 256 ≡ getD t k 0
   third-of-four x k l = omega (arith, small k, small l)
 
-  pub first-of-four : (i j k l : ℕ) → (((getD t i 0 * 256 + getD t j 0) * 256 + getD t k 0) * 256 + getD t l 0) / 16777216 % 256 ≡ getD t i 0
+  pub first-of-four : (i j k l : ℕ) → (((getD t i 0 * 256 + getD t j 0) * 256 + getD t k 0) * 256 + getD t l 0) / 16_777_216 % 256 ≡ getD t i 0
   first-of-four i j k l = omega (arith, small i, small j, small k, small l)
 
-  pub second-of-four : (i j k l : ℕ) → (((getD t i 0 * 256 + getD t j 0) * 256 + getD t k 0) * 256 + getD t l 0) / 65536 % 256 ≡ getD t j 0
+  pub second-of-four : (i j k l : ℕ) → (((getD t i 0 * 256 + getD t j 0) * 256 + getD t k 0) * 256 + getD t l 0) / 65_536 % 256 ≡ getD t j 0
   second-of-four i j k l = omega (arith, small i, small j, small k, small l)

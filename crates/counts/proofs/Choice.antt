@@ -10,8 +10,8 @@ by-test P true a b left right = left refl
 by-test P false a b left right = right refl
 
 -- whatever the test says
-pub either-way : {A : Type 0} (P : A → Type 0) (t : Bool) (a b : A) → P a → P b → P (if t then a else b)
-either-way P t a b left right = by-test P t a b (λ e. left) (λ e. right)
+pub either-way : {A : Type 0} (P : A → Type 0) (t : Bool) {a b : A} → P a → P b → P (if t then a else b)
+either-way P t {a} {b} left right = by-test P t a b (λ e. left) (λ e. right)
 
 -- a test that must pass first
 pub guarded : (a b : Bool) → (if not a then false else b) ≡ true → (a ≡ true) × (b ≡ true)

@@ -20,7 +20,7 @@ abbrev pub bytes2 : ℕ → List ℕ
 bytes2 v = v / 256 % 256 ∷ v % 256 ∷ []
 
 abbrev pub bytes4 : ℕ → List ℕ
-bytes4 v = v / 16777216 % 256 ∷ v / 65536 % 256 ∷ v / 256 % 256 ∷ v % 256 ∷ []
+bytes4 v = v / 16_777_216 % 256 ∷ v / 65_536 % 256 ∷ v / 256 % 256 ∷ v % 256 ∷ []
 
 -- every element is a byte
 abbrev pub Bytes : List ℕ → Type 0

@@ -1,20 +1,19 @@
 // What C calls: the record and the file lent, the answer as a number.
-use board::Performed;
-use calls::Coded;
-use pack::Pack;
-use profile::Profile;
-use record::Chain;
-use record::apply;
+use c_pack::Coded;
+use chain_record::Chain;
+use chain_step::Performed;
+use pack_profile::Profile;
+use pack_read::Pack;
 ghost use mathlib.Core.Path.{_≡_};
 ghost use lib.ListN.{length};
-ghost use Rattle.laying.specs.Lay.{laidNumber, laidAnswer, laidBytes};
-ghost use Rattle.chain.specs.Shown.{lineSum};
-ghost use Rattle.calls.specs.Fit.{fitOf};
-ghost use Rattle.calls.specs.Packs.{packsOf, packOf};
-ghost use Rattle.words.specs.Words.{wordOf};
-ghost use Rattle.marks.specs.Marks.{markedChain};
-ghost use Rattle.record.specs.Apply.{applied};
-ghost use Rattle.board.specs.Step.{stepOf, stepFile};
+ghost use Rattle.pack_lay.specs.Lay.{laidNumber, laidAnswer, laidBytes};
+ghost use Rattle.chain_decide.specs.Shown.{lineSum};
+ghost use Rattle.c_pack.specs.Fit.{lentFit};
+ghost use Rattle.c_pack.specs.FilePacks.{packsOf, packAtSlot};
+ghost use Rattle.c_word.specs.Words.{slotWord};
+ghost use Rattle.c_layout.specs.Marks.{markedChain};
+ghost use Rattle.chain_apply.specs.Apply.{applied};
+ghost use Rattle.chain_step.specs.Step.{stepOf, stepFile};
 ghost use Rattle.esdi.specs.Call.{answerCode};
 
 // The record with what was decided put into it.
@@ -22,7 +21,7 @@ fn changed(c: Chain, p: Performed) -> Chain
     ensures { λ r. ⌜ r ≡ applied c (p .decision) ⌝ }
 {
     let d = p.decision;
-    apply::apply(c, d)
+    chain_apply::apply(c, d)
 }
 
 // The answer's number in the low byte, its value in the next.
@@ -58,7 +57,7 @@ pub extern "C" fn esdi_event<'a, 'b>(
         × ((r ≡ answerCode (stepOf kind a b (now (c .entry)) (now (file .entry)) .answer)) × (now (file .exit) ≡ stepFile kind a b (now (c .entry)) (now (file .entry)))) ⌝ }
 {
     let old = *c;
-    let performed = board::perform(old, file, kind, a, b);
+    let performed = chain_step::perform(old, file, kind, a, b);
     *c = changed(old, performed);
     answer_code(performed)
 }
@@ -66,10 +65,10 @@ pub extern "C" fn esdi_event<'a, 'b>(
 // A chain fitted from a pack file into the lent record.
 #[no_mangle]
 pub extern "C" fn esdi_fit<'a, 'b>(c: &'a mut Chain, file: &'b [u8]) -> u64
-    ensures { λ r. ⌜ (now (c .exit) ≡ fitOf (now (c .entry)) (now (file .entry)) .chain) × (r ≡ fitOf (now (c .entry)) (now (file .entry)) .code) ⌝ }
+    ensures { λ r. ⌜ (now (c .exit) ≡ lentFit (now (c .entry)) (now (file .entry)) .chain) × (r ≡ lentFit (now (c .entry)) (now (file .entry)) .code) ⌝ }
 {
     let old = *c;
-    let fitted = calls::fit::fit(old, file);
+    let fitted = c_pack::fit::fit(old, file);
     *c = chain_of(fitted);
     code_of(fitted)
 }
@@ -77,10 +76,10 @@ pub extern "C" fn esdi_fit<'a, 'b>(c: &'a mut Chain, file: &'b [u8]) -> u64
 // A word to a slot of the lent record.
 #[no_mangle]
 pub extern "C" fn esdi_word(c: &mut Chain, slot: u32, word: u32) -> u64
-    ensures { λ r. ⌜ (now (c .exit) ≡ wordOf (now (c .entry)) slot word .chain) × (r ≡ wordOf (now (c .entry)) slot word .code) ⌝ }
+    ensures { λ r. ⌜ (now (c .exit) ≡ slotWord (now (c .entry)) slot word .chain) × (r ≡ slotWord (now (c .entry)) slot word .code) ⌝ }
 {
     let old = *c;
-    let sent = words::word(old, slot, word);
+    let sent = c_word::word(old, slot, word);
     *c = chain_of(sent);
     code_of(sent)
 }
@@ -91,7 +90,7 @@ pub extern "C" fn esdi_lines(c: &mut Chain) -> u8
     ensures { λ r. ⌜ (now (c .exit) ≡ now (c .entry)) × (r ≡ lineSum (now (c .entry))) ⌝ }
 {
     let old = *c;
-    chain::shown::line_sum(old)
+    chain_decide::shown::line_sum(old)
 }
 
 // The lent record filled with marks.
@@ -99,7 +98,7 @@ pub extern "C" fn esdi_lines(c: &mut Chain) -> u8
 pub extern "C" fn esdi_marks(c: &mut Chain)
     ensures { λ _. ⌜ now (c .exit) ≡ markedChain ⌝ }
 {
-    *c = marks::marked();
+    *c = c_layout::marked();
 }
 
 // The status of a pack file.
@@ -107,15 +106,15 @@ pub extern "C" fn esdi_marks(c: &mut Chain)
 pub extern "C" fn esdi_packs(file: &[u8]) -> u64
     ensures { λ r. ⌜ r ≡ packsOf (now (file .entry)) ⌝ }
 {
-    calls::packs::packs(file)
+    c_pack::packs::packs(file)
 }
 
 // The pack in a slot of a pack file.
 #[no_mangle]
 pub extern "C" fn esdi_pack_at(file: &[u8], slot: u32) -> Pack
-    ensures { λ r. ⌜ r ≡ packOf (now (file .entry)) slot ⌝ }
+    ensures { λ r. ⌜ r ≡ packAtSlot (now (file .entry)) slot ⌝ }
 {
-    calls::packs::pack_at(file, slot)
+    c_pack::packs::pack_at(file, slot)
 }
 
 // A pack laid at the start of the lent part.
@@ -123,5 +122,5 @@ pub extern "C" fn esdi_pack_at(file: &[u8], slot: u32) -> Pack
 pub extern "C" fn esdi_lay(part: &mut [u8], p: Profile) -> u32
     ensures { λ r. ⌜ (r ≡ laidNumber (laidAnswer p (length (now (part .entry))))) × (now (part .exit) ≡ laidBytes p (now (part .entry))) ⌝ }
 {
-    calls::packs::laid(p, part)
+    c_pack::packs::laid(p, part)
 }

@@ -14,19 +14,19 @@ unfoldable pub ranged : Bool → Event → Decoded
 ranged good e = if good then Is e else Range
 
 -- "2, 3, 4, 5 | write gate, read gate, command data, transfer request"
-unfoldable pub lineOf : ℕ → ℕ → Event
-lineOf kind a =
+unfoldable pub levelLine : ℕ → ℕ → Event
+levelLine kind a =
     if eqb kind 2 then WriteGate a
     else if eqb kind 3 then ReadGate a
     else if eqb kind 4 then Data a
     else Request a
 
 -- the rows of the table, for kinds up to 8
-unfoldable pub rowOf : ℕ → ℕ → ℕ → Decoded
-rowOf kind a b =
+unfoldable pub kindRow : ℕ → ℕ → ℕ → Decoded
+kindRow kind a b =
     if eqb kind 0 then ranged (isSelectCode a) (Select a)  -- "0 | drive select code | 0..7 (0 = none)"
     else if eqb kind 1 then ranged (isHead a) (Heads (record { 0 = a }))  -- "1 | head lines | 0..15"
-    else if leb kind 5 then ranged (isLevel a) (lineOf kind a)  -- "2, 3, 4, 5 | .. | 0/1"
+    else if leb kind 5 then ranged (isLevel a) (levelLine kind a)  -- "2, 3, 4, 5 | .. | 0/1"
     else if eqb kind 6 then ranged (isSpan a) (Pass (record { 0 = a }))  -- "6 | microseconds pass | 0..65,535"
     else if eqb kind 7 then ranged (isPosition a && isByte b) (Cell (record { 0 = a }) b)  -- "7 | data cell | position in track 0..65,535 | byte"
     else ranged (isSlot a && isCondition b) (Condition a b)  -- "8 | condition in a slot | slot 1..7 | 1 write fault, 2 seek error, 3 medium changed"
@@ -36,4 +36,4 @@ unfoldable pub decodeOf : ℕ → ℕ → ℕ → Decoded
 decodeOf kind a b =
     if ltb 8 kind then Unknown  -- "20 | unknown kind"
     else if strayB kind b then Range  -- "21 | operand out of range", of "b is 0 for kinds 0 to 6"
-    else rowOf kind a b
+    else kindRow kind a b

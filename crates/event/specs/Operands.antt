@@ -18,11 +18,11 @@ isLevel a = leb a 1
 
 -- "microseconds pass | 0..65,535"
 abbrev pub isSpan : ℕ → Bool
-isSpan a = leb a 65535
+isSpan a = leb a 65_535
 
 -- "position in track 0..65,535"
 abbrev pub isPosition : ℕ → Bool
-isPosition a = leb a 65535
+isPosition a = leb a 65_535
 
 -- "byte"
 abbrev pub isByte : ℕ → Bool

@@ -7,7 +7,7 @@ use counts::Position;
 ghost use mathlib.Core.Path.{_≡_};
 ghost use mathlib.Core.Bool.{_&&_};
 ghost use Rattle.event.specs.Operands.{isSelectCode, isHead, isLevel, isSpan, isPosition, isByte, isSlot, isCondition, strayB};
-ghost use Rattle.event.specs.Decode.{ranged, lineOf, rowOf, decodeOf};
+ghost use Rattle.event.specs.Decode.{ranged, levelLine, kindRow, decodeOf};
 
 // The highest of the conditions.
 const CONDITIONS: u32 = 3;
@@ -39,7 +39,7 @@ fn heads(a: u32) -> Decoded
 
 // One of the four lines that have a level.
 fn line(kind: u32, a: u32) -> Decoded
-    ensures { λ r. ⌜ r ≡ ranged (isLevel a) (lineOf kind a) ⌝ }
+    ensures { λ r. ⌜ r ≡ ranged (isLevel a) (levelLine kind a) ⌝ }
 {
     if a > 1 {
         return Decoded::Range;
@@ -98,7 +98,7 @@ fn condition(a: u32, b: u32) -> Decoded
 
 // The event of a kind up to 8, where its operands are in range.
 fn row(kind: u32, a: u32, b: u32) -> Decoded
-    ensures { λ r. ⌜ r ≡ rowOf kind a b ⌝ }
+    ensures { λ r. ⌜ r ≡ kindRow kind a b ⌝ }
 {
     if kind == 0 {
         return select(a);

@@ -1,11 +1,11 @@
 // An answer as the runner and C are told it: its number and its value.
 use crate::Answer;
 ghost use mathlib.Core.Path.{_≡_};
-ghost use Rattle.event.specs.Answer.{numberOf, valueOf};
+ghost use Rattle.event.specs.Answer.{answerNumber, answerValue};
 
 // Document 01's number of an answer.
 pub fn number(a: Answer) -> u8
-    ensures { λ r. ⌜ r ≡ numberOf a ⌝ }
+    ensures { λ r. ⌜ r ≡ answerNumber a ⌝ }
 {
     match a {
         Answer::Taken => 0,
@@ -25,7 +25,7 @@ pub fn number(a: Answer) -> u8
 
 // The byte that an answer gives.
 pub fn value(a: Answer) -> u8
-    ensures { λ r. ⌜ r ≡ valueOf a ⌝ }
+    ensures { λ r. ⌜ r ≡ answerValue a ⌝ }
 {
     match a {
         Answer::Taken => 0,

@@ -1,3 +1,3 @@
 pub mod Transfer
 pub mod Edges
-pub mod Left
+pub mod SoundTransfer

@@ -3,7 +3,7 @@ use counts::Micros;
 ghost use mathlib.Core.Path.{_≡_};
 ghost use Rattle.handshake.specs.Transfer.{noTransfer, respondingWith, openB, bitOut, statusLine};
 ghost use Rattle.handshake.specs.Edges.{takenBit, nextBit, takenOf, putOutOf, riseOf, loweredOf, fallOf, waitOf};
-ghost use Rattle.handshake.specs.Left.{idleB, noneB, takingB, respondingB, leftB};
+ghost use Rattle.handshake.specs.SoundTransfer.{idleB, noneB, takingB, respondingB, leftB};
 
 // way: 0 none, 1 taking bits, 2 responding. count: the bits taken, or put out. acknowledge: the line's level.
 #[repr(C)]
@@ -31,7 +31,7 @@ impl Transfer {
     // Sixteen bits and their parity.
     pub const BITS: u8 = 17;
 
-    // The microseconds between one request edge and the next that are not too many.
+    // The longest time between one request edge and the next, in microseconds.
     pub const PATIENCE: u32 = 10_000;
 
     pub fn none() -> Transfer
@@ -173,7 +173,7 @@ pub fn wait(t: Transfer, us: Micros) -> Edge
     Edge::Keep(e)
 }
 
-// The response bit that stands out after count bits, the first highest.
+// The bit that is out when count bits of the response have been put out, the highest first.
 fn bit_out(response: u32, count: u8) -> u8
     ensures { λ r. ⌜ r ≡ bitOut response count ⌝ }
 {

@@ -1,4 +1,4 @@
--- `esdi::esdi_event` meets its contract: the walk of `lend/Event`, at the chain record. Nothing here names a field of the record.
+-- `esdi::esdi_event` meets its contract: the walk of `law_lend/Event`, at the chain record. Nothing here names a field of the record.
 -- Assumes nothing.
 use mathlib.Core.Path.{_≡_, refl, _∙_, ap}
 use Prim.Native.Nat.{ℕ, _<_, _^_}
@@ -34,15 +34,15 @@ use denote.Triple.Table.{entered, cited}
 use denote.Triple.Walked.{says, Stays, stay-ref, gave-slice, stay-none, walkOf, AllGo, goes-none, goes-ref, goes-gave-slice, Walks, ends-at, walked, walk-meets}
 use denote.Exit.{yes}
 use denote.Triple.Clauses.{ensured, lasts}
-use Rattle.record.specs.declared.Chain.{Chain}
-use Rattle.board.specs.declared.Performed.{Performed}
-use Rattle.record.specs.Apply.{applied}
-use Rattle.board.specs.Step.{performOf, stepOf, stepFile}
+use Rattle.chain_record.specs.declared.Chain.{Chain}
+use Rattle.chain_step.specs.declared.Performed.{Performed}
+use Rattle.chain_apply.specs.Apply.{applied}
+use Rattle.chain_step.specs.Step.{performOf, stepOf, stepFile}
 use Rattle.esdi.specs.Call.{answerCode}
-use Rattle.record.proofs.Chain as T
-use Rattle.record.proofs.Chain.Laws as T′
-use Rattle.board.proofs.Performed as S
-use Rattle.board.proofs.Performed.Laws as S′
+use Rattle.chain_record.proofs.Chain as T
+use Rattle.chain_record.proofs.Chain.Laws as T′
+use Rattle.chain_step.proofs.Performed as S
+use Rattle.chain_step.proofs.Performed.Laws as S′
 use Rattle.esdi.proofs.changed as chain-of
 use Rattle.esdi.proofs.changed.Symbol as chain-of-def
 use Rattle.esdi.proofs.changed.Symbol.{name as #chain}
@@ -51,15 +51,15 @@ use Rattle.esdi.proofs.answer_code as code-of
 use Rattle.esdi.proofs.answer_code.Symbol as code-of-def
 use Rattle.esdi.proofs.answer_code.Symbol.{name as #code}
 use Rattle.esdi.proofs.answer_code.Met as code-of-thm
-use Rattle.board.proofs.perform as by-value
-use Rattle.board.proofs.perform.Symbol as by-value-def
-use Rattle.board.proofs.perform.Symbol.{name as #event}
-use Rattle.board.proofs.perform.Met as by-value-thm
+use Rattle.chain_step.proofs.perform as by-value
+use Rattle.chain_step.proofs.perform.Symbol as by-value-def
+use Rattle.chain_step.proofs.perform.Symbol.{name as #event}
+use Rattle.chain_step.proofs.perform.Met as by-value-thm
 use Rattle.esdi.proofs.esdi_event.Key.{name as #lent}
 use Rattle.esdi.proofs.esdi_event as lent
 use Rattle.esdi.proofs.esdi_event.Statement as stated
 use Rattle.esdi.proofs.esdi_event.Code as code
-use Rattle.lend.proofs.Event as lend
+use Rattle.law_lend.proofs.Event as lend
 
 abbrev Arg : Type 0
 Arg = RefT Chain × (RefT (List ℕ) × (ℕ × (ℕ × (ℕ × Unit {0}))))
@@ -190,4 +190,4 @@ esdi-event-spec 𝓤 H 𝓜 𝓖 𝓡 =
     (lent-meets 𝓤 H (𝓖 .A) (givenOf 𝓤 H 𝓜 𝓖) (𝓜 .mem) (𝓡 .run) (tablesOf 𝓤 H 𝓜 (tables 𝓤 H 𝓜 𝓡 code.env))
     (cited 𝓤 H (ChainOf 𝓤 H (𝓖 .A) (𝓜 .mem) (𝓡 .run)) 𝓜 𝓡 code.env #chain chain-of-def.routine code.calls-esdi·changed (chain-of-thm.met 𝓤 H 𝓜 𝓖 𝓡))
     (cited 𝓤 H (CodeOf 𝓤 H (𝓖 .A) (𝓜 .mem) (𝓡 .run)) 𝓜 𝓡 code.env #code code-of-def.routine code.calls-esdi·answer-code (code-of-thm.met 𝓤 H 𝓜 𝓖 𝓡))
-    (cited 𝓤 H (Event 𝓤 H (𝓖 .A) (𝓜 .mem) (𝓡 .run)) 𝓜 𝓡 code.env #event by-value-def.routine code.calls-board·perform (by-value-thm.met 𝓤 H 𝓜 𝓖 𝓡)))
+    (cited 𝓤 H (Event 𝓤 H (𝓖 .A) (𝓜 .mem) (𝓡 .run)) 𝓜 𝓡 code.env #event by-value-def.routine code.calls-chain-step·perform (by-value-thm.met 𝓤 H 𝓜 𝓖 𝓡)))

@@ -1,4 +1,4 @@
--- `esdi::esdi_fit` meets its contract: the walk of `lend/Fit`, at the chain record. Nothing here names a field of the record.
+-- `esdi::esdi_fit` meets its contract: the walk of `law_lend/Fit`, at the chain record. Nothing here names a field of the record.
 -- Assumes nothing.
 use mathlib.Core.Path.{_≡_, refl, _∙_, ap}
 use Prim.Native.Nat.{ℕ}
@@ -34,12 +34,12 @@ use denote.Triple.Table.{entered, cited}
 use denote.Triple.Walked.{says, Stays, stay-ref, stay-dropped, walkOf, AllGo, goes-dropped, goes-ref, Walks, ends-at, walked, walk-meets}
 use denote.Exit.{yes}
 use denote.Triple.Clauses.{ensured, lasts}
-use Rattle.record.specs.declared.Chain.{Chain}
-use Rattle.record.proofs.Chain as T
-use Rattle.record.proofs.Chain.Laws as T′
-use Rattle.calls.specs.declared.Coded.{Coded}
-use Rattle.calls.proofs.Coded as S
-use Rattle.calls.proofs.Coded.Laws as S′
+use Rattle.chain_record.specs.declared.Chain.{Chain}
+use Rattle.chain_record.proofs.Chain as T
+use Rattle.chain_record.proofs.Chain.Laws as T′
+use Rattle.c_pack.specs.declared.Coded.{Coded}
+use Rattle.c_pack.proofs.Coded as S
+use Rattle.c_pack.proofs.Coded.Laws as S′
 use Rattle.esdi.proofs.chain_of as chain-of
 use Rattle.esdi.proofs.chain_of.Symbol as chain-of-def
 use Rattle.esdi.proofs.chain_of.Symbol.{name as #chain}
@@ -48,16 +48,16 @@ use Rattle.esdi.proofs.code_of as code-of
 use Rattle.esdi.proofs.code_of.Symbol as code-of-def
 use Rattle.esdi.proofs.code_of.Symbol.{name as #code}
 use Rattle.esdi.proofs.code_of.Met as code-of-thm
-use Rattle.calls.specs.Fit.{fitOf}
-use Rattle.calls.proofs.fit.fit as by-value
-use Rattle.calls.proofs.fit.fit.Symbol as by-value-def
-use Rattle.calls.proofs.fit.fit.Symbol.{name as #plain}
-use Rattle.calls.proofs.fit.fit.Met as by-value-thm
+use Rattle.c_pack.specs.Fit.{lentFit}
+use Rattle.c_pack.proofs.fit.fit as by-value
+use Rattle.c_pack.proofs.fit.fit.Symbol as by-value-def
+use Rattle.c_pack.proofs.fit.fit.Symbol.{name as #plain}
+use Rattle.c_pack.proofs.fit.fit.Met as by-value-thm
 use Rattle.esdi.proofs.esdi_fit.Key.{name as #lent}
 use Rattle.esdi.proofs.esdi_fit as lent
 use Rattle.esdi.proofs.esdi_fit.Statement as stated
 use Rattle.esdi.proofs.esdi_fit.Code as code
-use Rattle.lend.proofs.Fit as lend
+use Rattle.law_lend.proofs.Fit as lend
 
 abbrev stayed : Stays (lent.ended .signature .params) (lent.ended .kept)
 stayed = (stay-ref (0 ∷ []) tt (plain (λ _. T.the-row)), (stay-dropped (shrSliceOf (1 ∷ []) tt (plain (λ _. u8))) yes, tt))
@@ -105,7 +105,7 @@ module _ {M : Type 1} (𝓤 : URA M) (H : Heap 𝓤) (A : Atoms 𝓤) (W : Given
   Post = walkOf 𝓤 H A lent.ended stayed (lent.clauses 𝓤 H A at-mem run) .post (((κ, (κ′, tt)), (q, (q′, tt)), tt, x, at), tt)
 
   abbrev Said : Coded → Type 0
-  Said r = r ≡ fitOf h ys
+  Said r = r ≡ lentFit h ys
 
   abbrev Ens : Coded → SProp 𝓤
   Ens t = ensured 𝓤 H A by-value.ended (by-value.clauses 𝓤 H A at-mem run) (κ′, tt) (h, (f, tt)) tt t
@@ -177,4 +177,4 @@ esdi-fit-spec 𝓤 H 𝓜 𝓖 𝓡 =
     (lent-meets 𝓤 H (𝓖 .A) (givenOf 𝓤 H 𝓜 𝓖) (𝓜 .mem) (𝓡 .run) (tablesOf 𝓤 H 𝓜 (tables 𝓤 H 𝓜 𝓡 code.env))
     (cited 𝓤 H (ChainOf 𝓤 H (𝓖 .A) (𝓜 .mem) (𝓡 .run)) 𝓜 𝓡 code.env #chain chain-of-def.routine code.calls-esdi·chain-of (chain-of-thm.met 𝓤 H 𝓜 𝓖 𝓡))
     (cited 𝓤 H (CodeOf 𝓤 H (𝓖 .A) (𝓜 .mem) (𝓡 .run)) 𝓜 𝓡 code.env #code code-of-def.routine code.calls-esdi·code-of (code-of-thm.met 𝓤 H 𝓜 𝓖 𝓡))
-    (cited 𝓤 H (Plain 𝓤 H (𝓖 .A) (𝓜 .mem) (𝓡 .run)) 𝓜 𝓡 code.env #plain by-value-def.routine code.calls-calls·fit·fit (by-value-thm.met 𝓤 H 𝓜 𝓖 𝓡)))
+    (cited 𝓤 H (Plain 𝓤 H (𝓖 .A) (𝓜 .mem) (𝓡 .run)) 𝓜 𝓡 code.env #plain by-value-def.routine code.calls-c-pack·fit·fit (by-value-thm.met 𝓤 H 𝓜 𝓖 𝓡)))

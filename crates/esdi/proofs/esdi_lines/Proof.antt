@@ -1,4 +1,4 @@
--- `esdi::esdi_lines` meets its contract: the walk of `lend/Alone`, at the chain record. Nothing here names a field of the record.
+-- `esdi::esdi_lines` meets its contract: the walk of `law_lend/Alone`, at the chain record. Nothing here names a field of the record.
 -- Assumes nothing.
 use mathlib.Core.Path.{_≡_, refl}
 use Prim.Native.Nat.{ℕ}
@@ -31,19 +31,19 @@ use denote.Triple.Spec.{Meets, tripleOf}
 use denote.Triple.Table.{entered, cited}
 use denote.Triple.Walked.{says, Stays, stay-ref, walkOf, AllGo, goes-ref, Walks, ends-at, walked, walk-meets}
 use denote.Triple.Clauses.{ensured, lasts}
-use Rattle.record.specs.declared.Chain.{Chain}
-use Rattle.record.proofs.Chain as T
-use Rattle.record.proofs.Chain.Laws as T′
-use Rattle.chain.specs.Shown.{lineSum}
-use Rattle.chain.proofs.shown.line_sum as by-value
-use Rattle.chain.proofs.shown.line_sum.Symbol as by-value-def
-use Rattle.chain.proofs.shown.line_sum.Symbol.{name as #plain}
-use Rattle.chain.proofs.shown.line_sum.Met as by-value-thm
+use Rattle.chain_record.specs.declared.Chain.{Chain}
+use Rattle.chain_record.proofs.Chain as T
+use Rattle.chain_record.proofs.Chain.Laws as T′
+use Rattle.chain_decide.specs.Shown.{lineSum}
+use Rattle.chain_decide.proofs.shown.line_sum as by-value
+use Rattle.chain_decide.proofs.shown.line_sum.Symbol as by-value-def
+use Rattle.chain_decide.proofs.shown.line_sum.Symbol.{name as #plain}
+use Rattle.chain_decide.proofs.shown.line_sum.Met as by-value-thm
 use Rattle.esdi.proofs.esdi_lines.Key.{name as #lent}
 use Rattle.esdi.proofs.esdi_lines as lent
 use Rattle.esdi.proofs.esdi_lines.Statement as stated
 use Rattle.esdi.proofs.esdi_lines.Code as code
-use Rattle.lend.proofs.Alone as lend
+use Rattle.law_lend.proofs.Alone as lend
 
 abbrev stayed : Stays (lent.ended .signature .params) (lent.ended .kept)
 stayed = (stay-ref (0 ∷ []) tt (plain (λ _. T.the-row)), tt)
@@ -115,4 +115,4 @@ esdi-lines-spec 𝓤 H 𝓜 𝓖 𝓡 =
     entered 𝓤 H (tripleOf 𝓤 H (𝓖 .A) lent.signature (lent.spec 𝓤 H (𝓖 .A) (𝓜 .mem) (𝓡 .run)))
     (tables 𝓤 H 𝓜 𝓡 code.env .C) (tables 𝓤 H 𝓜 𝓡 code.env .Λ) #lent code.function (code.unfolded 𝓤 H 𝓜 𝓡)
     (lent-meets 𝓤 H (𝓖 .A) (givenOf 𝓤 H 𝓜 𝓖) (𝓜 .mem) (𝓡 .run) (tablesOf 𝓤 H 𝓜 (tables 𝓤 H 𝓜 𝓡 code.env))
-    (cited 𝓤 H (Plain 𝓤 H (𝓖 .A) (𝓜 .mem) (𝓡 .run)) 𝓜 𝓡 code.env #plain by-value-def.routine code.calls-chain·shown·line-sum (by-value-thm.met 𝓤 H 𝓜 𝓖 𝓡)))
+    (cited 𝓤 H (Plain 𝓤 H (𝓖 .A) (𝓜 .mem) (𝓡 .run)) 𝓜 𝓡 code.env #plain by-value-def.routine code.calls-chain-decide·shown·line-sum (by-value-thm.met 𝓤 H 𝓜 𝓖 𝓡)))

@@ -1,5 +1,5 @@
 -- `handshake::could_leave` meets its contract: each return rewrites with the tests that led there.
-use Rattle.handshake.specs.Left.{leftB}
+use Rattle.handshake.specs.SoundTransfer.{leftB}
 use borrow.Author.Needs.{needs}
 use borrow.Author.Tests.{eq-eqb, ne-eqb}
 use Rattle.handshake.proofs.could_leave.Statement.{statement}

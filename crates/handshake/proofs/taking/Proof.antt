@@ -1,5 +1,5 @@
 -- `handshake::taking` meets its contract: each return rewrites with the tests that led there.
-use Rattle.handshake.specs.Left.{takingB}
+use Rattle.handshake.specs.SoundTransfer.{takingB}
 use borrow.Author.Needs.{needs}
 use borrow.Author.Tests.{le-leb, lt-leb}
 use Rattle.handshake.proofs.taking.Statement.{statement}

@@ -1,27 +1,27 @@
 -- `event::decode::line` meets its contract: each return rewrites with the tests that led there.
-use Rattle.event.specs.Decode.{ranged, lineOf}
+use Rattle.event.specs.Decode.{ranged, levelLine}
 use borrow.Author.Needs.{needs}
 use borrow.Author.Tests.{le-leb, lt-leb, eq-eqb, ne-eqb}
 use Rattle.event.proofs.decode.line.Statement.{statement}
 use Rattle.event.proofs.decode.line.Tie as tie
 
 returns : tie.Need-returns
-unfolding ranged lineOf
+unfolding ranged levelLine
 returns c = simp (lt-leb _ _ (c .if1 .taken))
 
 cast-level : tie.Need-cast-level
 cast-level c = search needs
 
 returns-2 : tie.Need-returns-2
-unfolding ranged lineOf
+unfolding ranged levelLine
 returns-2 c = simp (le-leb _ _ (c .before .if1 .left), eq-eqb _ _ (c .if2 .taken))
 
 returns-3 : tie.Need-returns-3
-unfolding ranged lineOf
+unfolding ranged levelLine
 returns-3 c = simp (le-leb _ _ (c .before .before .if1 .left), ne-eqb _ _ (c .before .if2 .left), eq-eqb _ _ (c .if3 .taken))
 
 returns-4 : tie.Need-returns-4
-unfolding ranged lineOf
+unfolding ranged levelLine
 returns-4 c =
     let b2 = c .before .before in
     let b3 = b2 .before in
@@ -33,7 +33,7 @@ returns-4 c =
     )
 
 returns-5 : tie.Need-returns-5
-unfolding ranged lineOf
+unfolding ranged levelLine
 returns-5 c =
     let b2 = c .before .before in
     let b3 = b2 .before in

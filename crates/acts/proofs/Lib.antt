@@ -1,4 +1,0 @@
-pub mod Times
-pub mod Limits
-pub mod Keep
-pub mod Leaves

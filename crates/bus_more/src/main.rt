@@ -1,4 +1,0 @@
-// The bus runner again, over a pack file and a longer input.
-fn main() {
-    runner::start();
-}

@@ -1,0 +1,11 @@
+// What a board asks of a pack file, in plain numbers: a chain fitted from it, its packs, a pack laid.
+pub mod fit;
+pub mod packs;
+
+use chain_record::Chain;
+
+// The record, and a code: an answer's number in the low byte, what the call says of it in the next, a place or a word in the high half.
+pub struct Coded {
+    pub chain: Chain,
+    pub code: u64,
+}

@@ -1,2 +1,0 @@
-pub mod Fit
-pub mod Packs

@@ -1,0 +1,36 @@
+// What three numbers come to on any record and any length of file: a decision, which for a refusal is that nothing changes.
+use chain_decide::decide;
+use chain_decision::Decision;
+use chain_record::Chain;
+use event::Answer;
+use event::Decoded;
+use event::Event;
+ghost use mathlib.Core.Path.{_≡_};
+ghost use Rattle.chain_judge.specs.Judge.{allowedOf, judgedOf};
+
+// A malformed record, or a file of another length, is refused.
+fn allowed(c: Chain, long: usize, e: Event) -> Decision
+    ensures { λ r. ⌜ r ≡ allowedOf c long e ⌝ }
+{
+    let lines = c.lines;
+    if !chain_sound::is_sound(c) {
+        return chain_decision::say(lines, Answer::Malformed);
+    }
+    if long != c.length.0 as usize {
+        return chain_decision::say(lines, Answer::WrongLength);
+    }
+    decide::decide(c, e)
+}
+
+// Refusals 20 to 25 in their order, else what the event decides.
+pub fn judge(c: Chain, long: usize, kind: u32, a: u32, b: u32) -> Decision
+    ensures { λ r. ⌜ r ≡ judgedOf c long kind a b ⌝ }
+{
+    let l = c.lines;
+    let decoded = event::decode::decode(kind, a, b);
+    match decoded {
+        Decoded::Is(e) => allowed(c, long, e),
+        Decoded::Unknown => chain_decision::say(l, Answer::UnknownKind),
+        Decoded::Range => chain_decision::say(l, Answer::OutOfRange),
+    }
+}

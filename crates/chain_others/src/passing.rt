@@ -1,0 +1,32 @@
+// Kind 6: microseconds pass.
+use chain_decision::Change;
+use chain_decision::Decision;
+use chain_decision::Deed;
+use chain_record::Seen;
+use counts::Micros;
+use drive_rules::time;
+use event::Answer;
+use lines::Lines;
+ghost use mathlib.Core.Path.{_≡_};
+ghost use Rattle.chain_others.specs.Passing.{passEvent};
+
+// Time passes on all; only the selected drive can have a transfer to drop.
+pub fn pass(d: Seen, l: Lines, us: Micros) -> Decision
+    ensures { λ r. ⌜ r ≡ passEvent d l us ⌝ }
+{
+    let s = d.state;
+    let r = time::pass(s, us);
+    let outcome = r.outcome;
+    if d.selected {
+        return Decision {
+            lines: l,
+            change: Change::Pass(us),
+            deed: Deed::Say(chain_decision::answer_of(outcome)),
+        };
+    }
+    Decision {
+        lines: l,
+        change: Change::Pass(us),
+        deed: Deed::Say(Answer::Taken),
+    }
+}

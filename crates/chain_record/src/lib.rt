@@ -1,0 +1,25 @@
+// The chain record: up to seven drives on one control cable, the selected one, and a decision put into the record.
+pub mod slots;
+
+use counts::Place;
+use drive_record::State;
+use lines::Lines;
+use pack_profile::Profile;
+use pack_read::Pack;
+
+// What the packs say, what the drives are doing, the lines, and the file's length. An empty slot is not looked at.
+#[repr(C)]
+pub struct Chain {
+    pub packs: [Pack; 7],
+    pub states: [State; 7],
+    pub lines: Lines,
+    pub length: Place,
+}
+
+// The selected drive, if a fitted one is.
+pub struct Seen {
+    pub selected: bool,
+    pub place: Place,
+    pub profile: Profile,
+    pub state: State,
+}

@@ -1,0 +1,175 @@
+-- What a sound chain gives as facts of its slots, and that a cell lies in the file.
+use mathlib.Core.Path.{_≡_, refl, sym, ap, _∙_}
+use mathlib.Core.Bool.{Bool, true, false, not, false≢true}
+use mathlib.Core.List.{List, [], _∷_}
+use mathlib.Core.Logic.{_⊎_, ⊎-elim}
+use Prim.Native.Nat.{ℕ, zero, suc, _+_, _-_, _≤_, _<_}
+use native.Mathlib.Omega.{arith}
+use borrow.Author.Tests.{eqb-true, eq-eqb, ltb-false}
+use lib.Arith.{digits-lt}
+use lib.Dec.{ltb, eqb}
+use lib.ListN.{getD}
+use Rattle.pack_trailer.specs.Form.{trailerLength}
+use Rattle.counts.specs.declared.Position.{Position}
+use Rattle.counts.specs.Choice.{if_then_else_}
+use Rattle.counts.specs.Slots.{allWith}
+use Rattle.counts.proofs.Choice.{guarded}
+use Rattle.counts.proofs.Slots.{all-at}
+use Rattle.counts.proofs.Tests.{each, within-both}
+use Rattle.pack_profile.specs.Profile.{mediumOf}
+use Rattle.pack_profile.specs.Valid.{validB}
+use Rattle.pack_read.specs.declared.Pack.{Pack}
+use Rattle.pack_read.specs.Packs.{noPack, longestFile}
+use Rattle.drive_record.specs.declared.State.{State}
+use Rattle.drive_record.specs.State.{blankState}
+use Rattle.drive_gates.specs.CellPlace.{placeOf}
+use Rattle.drive_record.proofs.WithinLimits.{on-cylinder}
+use Rattle.drive_gates.proofs.MayReadOrWrite.{usable}
+use Rattle.lines.specs.declared.Lines.{Lines}
+use Rattle.lines.specs.Lines.{linesB}
+use Rattle.drive_cable.proofs.OnCable.{Selected, selected, writes, reads}
+use Rattle.chain_record.specs.declared.Chain.{Chain}
+use Rattle.chain_record.specs.declared.Seen.{Seen}
+use Rattle.chain_sound.specs.declared.Placed.{Placed}
+use Rattle.chain_record.specs.Record.{slotB, slotPack, slotState, lookOf}
+use Rattle.chain_others.specs.Cell.{cellPlace}
+use Rattle.chain_sound.specs.SoundChain.{packTests, packB, placedOf, placesB, driveB, chainSoundB}
+
+unless : (a b : Bool) → (if a then false else b) ≡ true → (a ≡ false) × (b ≡ true)
+unless true b h = absurd (false≢true h)
+unless false b h = (refl, h)
+
+pub record Sound (c : Chain) : Type 0 where
+  pub lines : linesB (c .lines) ≡ true
+  pub long : c .length .0 ≤ longestFile
+  pub places : placesB (c .packs) 1 0 (c .length .0) ≡ true
+  pub drives : allWith (driveB (c .lines)) (c .packs) (c .states) ≡ true
+
+pub sound : (c : Chain) → chainSoundB c ≡ true → Sound c
+unfolding chainSoundB
+sound c h =
+    let a = guarded (linesB (c .lines)) _ h in
+    let b = unless (ltb longestFile (c .length .0)) _ (a .1) in
+    let d = guarded (placesB (c .packs) 1 0 (c .length .0)) _ (b .1) in
+    record { lines = a .0; long = ltb-false _ _ (b .0); places = d .0; drives = d .1 }
+
+-- a fitted pack, in its own slot and within the file
+pub record InFile (slot len : ℕ) (p : Pack) : Type 0 where
+  pub own : p .profile .slot ≡ slot
+  pub valid : validB (p .profile) ≡ true
+  pub within : p .place .0 + mediumOf (p .profile .shape) + trailerLength ≤ len
+
+-- what is placed, by its two tests
+abbrev placedBy : Bool → Bool → Bool → ℕ → ℕ → Placed
+placedBy a b ok at end =
+    if a then record { ok = false; end = at }
+    else if not b then record { ok = true; end = at }
+    else record { ok = ok; end = end }
+
+goes-on : (a b ok : Bool) (at end : ℕ) → (ok ≡ true → at ≤ end) → placedBy a b ok at end .ok ≡ true → at ≤ placedBy a b ok at end .end
+goes-on true b ok at end k h = absurd (false≢true h)
+goes-on false false ok at end k h = omega arith
+goes-on false true ok at end k h = k h
+
+holds : (a b ok : Bool) (at end : ℕ) → placedBy a b ok at end .ok ≡ true → b ≡ true → (ok ≡ true) × (placedBy a b ok at end .end ≡ end)
+holds true b ok at end h e = absurd (false≢true h)
+holds false false ok at end h e = absurd (false≢true e)
+holds false true ok at end h e = (h, refl)
+
+module _ (p : Pack) (slot at : ℕ) (h : placedOf p slot at .ok ≡ true) where
+  abbrev behind : ℕ
+  behind = p .place .0 + mediumOf (p .profile .shape) + trailerLength
+
+  -- the packs only go forward
+  forward : at ≤ placedOf p slot at .end
+  unfolding placedOf
+  forward =
+      goes-on (ltb 1 (p .fitted)) (eqb (p .fitted) 1) (packB p slot at) at behind
+      (λ ok. omega (arith, eqb-true (p .place .0) at (each (packTests p slot at) ok .1 .0))) h
+
+  stands : p .fitted ≡ 1 → InFile slot (placedOf p slot at .end) p
+  unfolding placedOf
+  stands f =
+      let r = holds (ltb 1 (p .fitted)) (eqb (p .fitted) 1) (packB p slot at) at behind h (eq-eqb _ _ f) in
+      let e = each (packTests p slot at) (r .0) in
+      record { own = eqb-true _ _ (e .0); valid = e .1 .1 .0; within = omega (arith, r .1) }
+
+ends : (packs : List Pack) (slot at len : ℕ) → placesB packs slot at len ≡ true → at ≤ len
+ends [] slot at len h = omega (arith, eqb-true at len h)
+ends (p ∷ packs) slot at len h =
+    let g = guarded (placedOf p slot at .ok) _ h in
+    omega (arith, forward p slot at (g .0), ends packs (slot + 1) (placedOf p slot at .end) len (g .1))
+
+-- each fitted pack stands in its own slot, within the file
+pub placed-at : (packs : List Pack) (slot at len i : ℕ) → placesB packs slot at len ≡ true → getD packs i noPack .fitted ≡ 1
+    → InFile (slot + i) len (getD packs i noPack)
+placed-at [] slot at len i h f = absurd (omega arith)
+placed-at (p ∷ packs) slot at len zero h f =
+    let g = guarded (placedOf p slot at .ok) _ h in
+    let s = stands p slot at (g .0) f in
+    record { own = omega arith; valid = s .valid; within = omega (arith, ends packs (slot + 1) (placedOf p slot at .end) len (g .1)) }
+placed-at (p ∷ packs) slot at len (suc i) h f =
+    let g = guarded (placedOf p slot at .ok) _ h in
+    let s = placed-at packs (slot + 1) (placedOf p slot at .end) len i (g .1) f in
+    record { own = omega arith; valid = s .valid; within = s .within }
+
+pub blank-drive : (l : Lines) (s : State) → driveB l noPack s ≡ true
+unfolding driveB
+blank-drive l s = refl
+
+-- the selected drive of a sound chain
+pub record Chosen (c : Chain) (d : Seen) : Type 0 where
+  pub pack : InFile (c .lines .select) (c .length .0) (slotPack (c .packs) (c .lines .select))
+  pub drive : Selected (d .profile) (c .lines) (d .state)
+
+pub slot-of : (k : ℕ) (packs : List Pack) → slotPack packs k .fitted ≡ 1 → slotB k ≡ true
+unfolding slotPack
+slot-of k packs f = go (slotB k) refl f
+  where
+    go : (b : Bool) → slotB k ≡ b → (if b then getD packs (k - 1) noPack else noPack) .fitted ≡ 1 → slotB k ≡ true
+    go true e f′ = e
+    go false e f′ = absurd (omega arith)
+
+pub pack-there : (k : ℕ) (packs : List Pack) → slotB k ≡ true → slotPack packs k ≡ getD packs (k - 1) noPack
+unfolding slotPack
+pack-there k packs b = rw b
+
+pub state-there : (k : ℕ) (states : List State) → slotB k ≡ true → slotState states k ≡ getD states (k - 1) blankState
+unfolding slotState
+state-there k states b = rw b
+
+drives : (l : Lines) (p : Pack) (s : State) → driveB l p s ≡ true → p .fitted ≡ 1 → l .select ≡ p .profile .slot → Selected (p .profile) l s
+unfolding driveB
+drives l p s h f own = selected (p .profile) l s (rw (eq-eqb _ _ f, eq-eqb _ _ own) at h)
+
+pub chosen : (c : Chain) → chainSoundB c ≡ true → lookOf c .selected ≡ true → Chosen c (lookOf c)
+unfolding lookOf
+chosen c h on =
+    let s = sound c h in
+    let k = c .lines .select in
+    let f : slotPack (c .packs) k .fitted ≡ 1 = eqb-true _ _ on in
+    let b = slot-of k (c .packs) f in
+    let w = within-both 1 7 k b in
+    let ep : slotPack (c .packs) k ≡ getD (c .packs) (k - 1) noPack = pack-there k (c .packs) b in
+    let es : slotState (c .states) k ≡ getD (c .states) (k - 1) blankState = state-there k (c .states) b in
+    let g : getD (c .packs) (k - 1) noPack .fitted ≡ 1 = ap (λ (p : Pack). p .fitted) (sym ep) ∙ f in
+    let q = placed-at (c .packs) 1 0 (c .length .0) (k - 1) (s .places) g in
+    let d = drives (c .lines) _ _ (all-at (driveB (c .lines)) noPack blankState (blank-drive (c .lines)) (c .packs) (c .states) (k - 1) (s .drives)) g (omega arith) in
+    let i : InFile k (c .length .0) (getD (c .packs) (k - 1) noPack) = record { own = omega arith; valid = q .valid; within = q .within } in
+    record { pack = rw ep i; drive = rw (ep, es) d }
+
+-- the byte that a cell meets stands in the selected pack's medium
+pub cell-inside : (c : Chain) (position : Position) → chainSoundB c ≡ true → lookOf c .selected ≡ true → position .0 < lookOf c .profile .shape .track .0
+    → (lookOf c .state .body .writing ≡ 1) ⊎ (lookOf c .state .body .reading ≡ 1)
+    → cellPlace (lookOf c) position < lookOf c .place .0 + mediumOf (lookOf c .profile .shape)
+unfolding cellPlace placeOf
+cell-inside c position h on t u =
+    let d = chosen c h on .drive in
+    let present = ⊎-elim (λ w. usable _ _ (writes _ _ _ (d .writing) w .usable) .present) (λ r. usable _ _ (reads _ _ _ (d .reading) r .usable) .present) u in
+    omega (arith, digits-lt (digits-lt (on-cylinder _ _ (d .limits)) present) t)
+
+-- and so in the file
+pub cell-in-file : (c : Chain) (position : Position) → chainSoundB c ≡ true → lookOf c .selected ≡ true → position .0 < lookOf c .profile .shape .track .0
+    → (lookOf c .state .body .writing ≡ 1) ⊎ (lookOf c .state .body .reading ≡ 1) → cellPlace (lookOf c) position < c .length .0
+unfolding lookOf
+cell-in-file c position h on t u = omega (arith, chosen c h on .pack .within, cell-inside c position h on t u)

@@ -1,9 +1,0 @@
-pub mod DriveLaws
-pub mod Meets
-pub mod Here
-pub mod Around
-pub mod Plain
-pub mod Demand
-pub mod Time
-pub mod Step
-pub mod Response

@@ -1,4 +1,0 @@
-pub mod Drive
-pub mod Decided
-pub mod AtOnce
-pub mod Stepped

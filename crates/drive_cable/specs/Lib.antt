@@ -1,0 +1,3 @@
+pub mod Request
+pub mod Sum
+pub mod SoundDrive

@@ -1,0 +1,31 @@
+-- Latching, and the conditions of kind 8.
+use Prim.Native.Nat.{ℕ, _^_}
+use lib.Bits.{bitOr}
+use lib.Dec.{eqb}
+use Rattle.counts.specs.Choice.{if_then_else_}
+use Rattle.drive_record.specs.declared.Body.{Body}
+use Rattle.handshake.specs.Transfer.{noTransfer}
+use Rattle.drive_record.specs.declared.State.{State}
+use Rattle.drive_record.specs.State.{with-arm, with-latched, with-reading, with-writing, stateOf}
+
+-- a bit of the status word, by its value; "Latching any bit ends writing."
+unfoldable pub latchOf : ℕ → Body → Body
+latchOf value b = with-writing 0 (with-latched (record { 0 = bitOr (b .latched .0) value }) b)
+
+-- bit k
+abbrev pub latchBit : ℕ → Body → Body
+latchBit k b = latchOf (2 ^ k) b
+
+abbrev pub losePosition : Body → Body
+losePosition b = with-arm (record { cylinder = b .arm .cylinder; offset = b .arm .offset; lost = 1 }) b
+
+-- "Condition 1 latches bit 1; 2 latches bit 4, loses the position and ends reading; 3 latches bit 0."
+unfoldable pub conditionOf : ℕ → Body → Body
+conditionOf which b =
+    if eqb which 1 then latchBit 1 b
+    else if eqb which 2 then with-reading 0 (losePosition (latchBit 4 b))
+    else latchBit 0 b
+
+-- "bit 6, dropped. Dropping lowers acknowledge."
+abbrev pub droppedOf : Body → State
+droppedOf b = stateOf (latchBit 6 b) noTransfer

@@ -1,0 +1,43 @@
+// Latched bits: the one place where a bit is latched, and the conditions that come from outside.
+use crate::Body;
+use crate::Latched;
+use crate::State;
+use handshake::Transfer;
+ghost use mathlib.Core.Path.{_≡_};
+ghost use Rattle.drive_record.specs.Faults.{latchOf, conditionOf, droppedOf};
+
+// A bit of the status word, by its value. Latching any bit ends writing.
+pub fn latch(b: Body, bit: u16) -> Body
+    ensures { λ r. ⌜ r ≡ latchOf bit b ⌝ }
+{
+    let mut e = b;
+    let l = Latched(b.latched.0 | bit);
+    e.latched = l;
+    e.writing = 0;
+    e
+}
+
+// 1 write fault, 2 seek error, 3 medium changed.
+pub fn condition(b: Body, which: u8) -> Body
+    ensures { λ r. ⌜ r ≡ conditionOf which b ⌝ }
+{
+    if which == 1 {
+        return latch(b, Latched::WRITE);
+    }
+    if which == 2 {
+        let mut e = latch(b, Latched::SEEK);
+        e.arm.lost = 1;
+        e.reading = 0;
+        return e;
+    }
+    latch(b, Latched::CHANGED)
+}
+
+// Bit 6, and the transfer is dropped.
+pub fn dropped(b: Body) -> State
+    ensures { λ r. ⌜ r ≡ droppedOf b ⌝ }
+{
+    let body = latch(b, Latched::INTERFACE);
+    let transfer = Transfer::none();
+    State { body, transfer }
+}

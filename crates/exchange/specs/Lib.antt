@@ -1,4 +1,0 @@
-pub mod Host
-pub mod Waits
-pub mod Unit
-pub mod AtOnce

@@ -1,0 +1,9 @@
+pub mod Fitted
+pub mod Outcomes
+pub mod Column
+pub mod Drives
+pub mod Ranges
+pub mod Kept
+pub mod Run
+pub mod FirstAnswer
+pub mod Answered

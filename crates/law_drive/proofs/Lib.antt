@@ -1,0 +1,12 @@
+pub mod SoundDrives
+pub mod OpenTransfers
+pub mod Gates
+pub mod Bodies
+pub mod Transfers
+pub mod DriveTime
+pub mod RequestRules
+pub mod GateRules
+pub mod SelectRules
+pub mod ConditionRules
+pub mod TimeRules
+pub mod Keeps

@@ -1,0 +1,4 @@
+pub mod Host
+pub mod Waits
+pub mod Unit
+pub mod UnitAtOnce

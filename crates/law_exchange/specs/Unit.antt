@@ -1,0 +1,103 @@
+-- One unit on the cable: its transfer goes by the handshake's rules, and of the rest of it four operations are known.
+use Prim.Native.Nat.{ℕ, _+_}
+use mathlib.Core.Bool.{Bool, false}
+use mathlib.Core.Option.{Option, none, some}
+use lib.Dec.{eqb}
+use Rattle.counts.specs.Choice.{if_then_else_}
+use Rattle.handshake.specs.declared.Transfer.{Transfer}
+use Rattle.handshake.specs.declared.Edge.{Edge}
+use Rattle.handshake.specs.declared.Edge.the-variants.{Keep, Drop, Carry}
+use Rattle.handshake.specs.Transfer.{responding, noTransfer, respondingWith, statusLine}
+use Rattle.handshake.specs.Edges.{riseOf, fallOf, waitOf}
+use Rattle.law_exchange.specs.Host.{Signal, level, ask, micros, Cable}
+
+-- what a word leaves of a unit, its response if it has one, and whether a fault rule applied
+pub record Carried (B : Type 0) : Type 0 where
+  pub body : B
+  pub told : Option ℕ
+  pub fails : Bool
+
+-- all of a unit but its transfer
+pub record Rules (B : Type 0) : Type 0 where
+  pub pass : ℕ → B → B  -- microseconds pass
+  pub calm : B → Bool  -- no timer runs
+  pub fault : B → B  -- "bit 6"
+  pub carry : ℕ → B → Carried B  -- a word with its parity, seventeen bits as a number
+
+-- the unit, the lines that the host moves, and the microseconds since it began
+pub record Wired (B : Type 0) : Type 0 where
+  pub body : B
+  pub transfer : Transfer
+  pub command : ℕ
+  pub request : ℕ
+  pub elapsed : ℕ
+
+-- what an edge or a wait leaves, and the number it answers
+pub record Met (B : Type 0) : Type 0 where
+  pub body : B
+  pub transfer : Transfer
+  pub answer : ℕ
+
+abbrev pub wired : {B : Type 0} → B → Transfer → ℕ → ℕ → ℕ → Wired B
+wired b t command request elapsed = record { body = b; transfer = t; command = command; request = request; elapsed = elapsed }
+
+-- "after the 17th bit in, the word is carried out and any response is fixed"
+abbrev pub unitAfterWord : Option ℕ → Transfer
+unitAfterWord none = noTransfer
+unitAfterWord (some r) = respondingWith r
+
+-- "5 a fault rule applied", else "0 taken"
+abbrev pub unitCarriedOut : {B : Type 0} → Carried B → Met B
+unitCarriedOut c = record { body = c .body; transfer = unitAfterWord (c .told); answer = if c .fails then 5 else 0 }
+
+module _ {B : Type 0} (R : Rules B) where
+  -- "bit 6, dropped"
+  abbrev pub dropped : B → Met B
+  dropped b = record { body = R .fault b; transfer = noTransfer; answer = 5 }
+
+  abbrev pub met : B → Edge → Met B
+  met b (Keep t) = record { body = b; transfer = t; answer = 0 }
+  met b Drop = dropped b
+  met b (Carry n) = unitCarriedOut (R .carry n b)
+
+  -- a wait carries nothing out
+  abbrev pub unitHeld : B → Edge → Met B
+  unitHeld b (Keep t) = record { body = b; transfer = t; answer = 0 }
+  unitHeld b Drop = dropped b
+  unitHeld b (Carry n) = dropped b
+
+  -- request's edges, no gate on
+  abbrev pub unitRisen : Wired B → Met B
+  unitRisen u = met (u .body) (riseOf false (R .calm (u .body)) (u .command) (u .transfer))
+
+  abbrev pub fallen : Wired B → Met B
+  fallen u = met (u .body) (fallOf (u .transfer))
+
+  abbrev pub unitPassed : ℕ → Wired B → Met B
+  unitPassed us u = unitHeld (R .pass us (u .body)) (waitOf (record { 0 = us }) (u .transfer))
+
+  -- "Setting a line to the level it has does nothing."
+  abbrev pub asked : ℕ → Wired B → Met B
+  asked v u =
+      if eqb (u .request) v then record { body = u .body; transfer = u .transfer; answer = 0 }
+      else if eqb v 1 then unitRisen u
+      else fallen u
+
+  abbrev pub after : Signal → Wired B → Wired B
+  after (level v) u = wired (u .body) (u .transfer) v (u .request) (u .elapsed)
+  after (ask v) u = wired (asked v u .body) (asked v u .transfer) (u .command) v (u .elapsed)
+  after (micros us) u = wired (unitPassed us u .body) (unitPassed us u .transfer) (u .command) (u .request) (u .elapsed + us)
+
+  abbrev pub answer : Signal → Wired B → ℕ
+  answer (level v) u = 0
+  answer (ask v) u = asked v u .answer
+  answer (micros us) u = unitPassed us u .answer
+
+  abbrev pub unit : Cable (Wired B)
+  unit = record {
+    after = after;
+    answer = answer;
+    acknowledged = λ (u : Wired B). eqb (u .transfer .acknowledge) 1;
+    responds = λ (u : Wired B). eqb (u .transfer .way) responding;
+    status = λ (u : Wired B). statusLine (u .transfer);
+  }

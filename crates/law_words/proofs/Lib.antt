@@ -1,0 +1,10 @@
+pub mod DriveLaws
+pub mod Meets
+pub mod Here
+pub mod Around
+pub mod Plain
+pub mod Demand
+pub mod ChainTime
+pub mod Step
+pub mod Response
+pub mod Runs

@@ -1,0 +1,5 @@
+pub mod Drive
+pub mod Decided
+pub mod AtOnce
+pub mod Stepped
+pub mod Listed

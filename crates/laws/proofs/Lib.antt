@@ -1,9 +1,0 @@
-pub mod Fitted
-pub mod Outcomes
-pub mod Column
-pub mod Drives
-pub mod Ranges
-pub mod Kept
-pub mod Run
-pub mod First
-pub mod Answered

@@ -1,3 +1,0 @@
-pub mod Column
-pub mod Applies
-pub mod Run

@@ -1,4 +1,0 @@
-pub mod Lists
-pub mod Laying
-pub mod ReadLaid
-pub mod LaidRead

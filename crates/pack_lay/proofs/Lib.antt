@@ -1,0 +1,4 @@
+pub mod LaidLists
+pub mod Laying
+pub mod ReadLaid
+pub mod LaidRead

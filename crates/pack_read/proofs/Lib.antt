@@ -1,0 +1,3 @@
+pub mod ReadLists
+pub mod Checked
+pub mod Back

@@ -1,0 +1,182 @@
+// A pack's trailer: the profile of its drive, as 44 bytes and back.
+use counts::Cylinder;
+use counts::Head;
+use counts::Micros;
+use counts::Position;
+use pack_profile::Profile;
+use pack_profile::Shape;
+use pack_profile::Times;
+ghost use mathlib.Core.Path.{_≡_};
+ghost use Prim.Native.Nat.{_+_, _*_};
+ghost use Rattle.counts.specs.Bytes.{one as byteOf, two as twoOf, four as fourOf};
+ghost use Rattle.pack_trailer.specs.Fields.{ShapeIs, TimesIs, profileOf, zerosB};
+ghost use Rattle.pack_trailer.specs.TrailerBytes.{trailerOf};
+
+// The length of a trailer.
+pub const LENGTH: usize = 44;
+
+// The form that a trailer names.
+pub const FORM: u8 = 1;
+
+// A byte of a trailer; past the end it reads 0, so nothing is asked of the caller.
+fn byte(t: &[u8], k: usize) -> u8
+    ensures { λ r. ⌜ r ≡ byteOf (now (t .entry)) k ⌝ }
+{
+    if k < t.len() {
+        return t[k];
+    }
+    0
+}
+
+fn join2(a: u8, b: u8) -> u16
+    ensures { λ r. ⌜ r ≡ a * 256 + b ⌝ }
+{
+    (a as u16) * 256 + (b as u16)
+}
+
+fn join4(a: u8, b: u8, c: u8, d: u8) -> u32
+    ensures { λ r. ⌜ r ≡ ((a * 256 + b) * 256 + c) * 256 + d ⌝ }
+{
+    (((a as u32) * 256 + (b as u32)) * 256 + (c as u32)) * 256 + (d as u32)
+}
+
+fn two(t: &[u8], k: u8) -> u16
+    ensures { λ r. ⌜ r ≡ twoOf (now (t .entry)) k ⌝ }
+{
+    let at = k as usize;
+    join2(byte(t, at), byte(t, at + 1))
+}
+
+fn two_wide(t: &[u8], k: u8) -> u32
+    ensures { λ r. ⌜ r ≡ twoOf (now (t .entry)) k ⌝ }
+{
+    two(t, k) as u32
+}
+
+fn four(t: &[u8], k: u8) -> u32
+    ensures { λ r. ⌜ r ≡ fourOf (now (t .entry)) k ⌝ }
+{
+    let at = k as usize;
+    join4(
+        byte(t, at),
+        byte(t, at + 1),
+        byte(t, at + 2),
+        byte(t, at + 3),
+    )
+}
+
+// The form that a trailer names.
+pub fn form_of(t: &[u8]) -> u8
+    ensures { λ r. ⌜ r ≡ byteOf (now (t .entry)) 39 ⌝ }
+{
+    byte(t, 39)
+}
+
+// The bytes from the pack's end back to its start.
+pub fn distance_of(t: &[u8]) -> u32
+    ensures { λ r. ⌜ r ≡ fourOf (now (t .entry)) 40 ⌝ }
+{
+    four(t, 40)
+}
+
+// Whether the bytes that must be zero are.
+pub fn zeros(t: &[u8]) -> bool
+    ensures { λ r. ⌜ r ≡ zerosB (now (t .entry)) ⌝ }
+{
+    (byte(t, 1) == 0) & (byte(t, 15) == 0) & (byte(t, 38) == 0)
+}
+
+fn shape_of(t: &[u8]) -> Shape
+    ensures { λ r. ⌜ ShapeIs (now (t .entry)) r ⌝ }
+{
+    Shape {
+        cylinders: Cylinder(two(t, 4)),
+        heads: Head(byte(t, 6)),
+        track: Position(two(t, 8)),
+        sector: Position(two(t, 10)),
+    }
+}
+
+fn times_of(t: &[u8]) -> Times
+    ensures { λ r. ⌜ TimesIs (now (t .entry)) r ⌝ }
+{
+    Times {
+        settle: Micros(four(t, 16)),
+        step: Micros(two_wide(t, 20)),
+        switch: Micros(two_wide(t, 22)),
+        recalibrate: Micros(four(t, 24)),
+        start: Micros(four(t, 28)),
+        diagnostic: Micros(four(t, 32)),
+        offset: Micros(two_wide(t, 36)),
+    }
+}
+
+// The fields of a trailer.
+pub fn profile_of(t: &[u8]) -> Profile
+    ensures { λ r. ⌜ r ≡ profileOf (now (t .entry)) ⌝ }
+{
+    let shape = shape_of(t);
+    let times = times_of(t);
+    Profile {
+        slot: byte(t, 0),
+        vendor: byte(t, 7),
+        general: two(t, 2),
+        gap: byte(t, 12),
+        sync: byte(t, 13),
+        protected: byte(t, 14),
+        shape,
+        times,
+    }
+}
+
+// The 44 bytes of a trailer, high byte first.
+pub fn trailer(p: Profile, distance: u32) -> [u8; LENGTH]
+    ensures { λ r. ⌜ r ≡ trailerOf p distance ⌝ }
+{
+    [
+        p.slot,
+        0,
+        (p.general / 256 % 256) as u8,
+        (p.general % 256) as u8,
+        (p.shape.cylinders.0 / 256 % 256) as u8,
+        (p.shape.cylinders.0 % 256) as u8,
+        p.shape.heads.0,
+        p.vendor,
+        (p.shape.track.0 / 256 % 256) as u8,
+        (p.shape.track.0 % 256) as u8,
+        (p.shape.sector.0 / 256 % 256) as u8,
+        (p.shape.sector.0 % 256) as u8,
+        p.gap,
+        p.sync,
+        p.protected,
+        0,
+        (p.times.settle.0 / 16_777_216 % 256) as u8,
+        (p.times.settle.0 / 65_536 % 256) as u8,
+        (p.times.settle.0 / 256 % 256) as u8,
+        (p.times.settle.0 % 256) as u8,
+        (p.times.step.0 / 256 % 256) as u8,
+        (p.times.step.0 % 256) as u8,
+        (p.times.switch.0 / 256 % 256) as u8,
+        (p.times.switch.0 % 256) as u8,
+        (p.times.recalibrate.0 / 16_777_216 % 256) as u8,
+        (p.times.recalibrate.0 / 65_536 % 256) as u8,
+        (p.times.recalibrate.0 / 256 % 256) as u8,
+        (p.times.recalibrate.0 % 256) as u8,
+        (p.times.start.0 / 16_777_216 % 256) as u8,
+        (p.times.start.0 / 65_536 % 256) as u8,
+        (p.times.start.0 / 256 % 256) as u8,
+        (p.times.start.0 % 256) as u8,
+        (p.times.diagnostic.0 / 16_777_216 % 256) as u8,
+        (p.times.diagnostic.0 / 65_536 % 256) as u8,
+        (p.times.diagnostic.0 / 256 % 256) as u8,
+        (p.times.diagnostic.0 % 256) as u8,
+        (p.times.offset.0 / 256 % 256) as u8,
+        (p.times.offset.0 % 256) as u8,
+        0,
+        FORM,
+        (distance / 16_777_216 % 256) as u8,
+        (distance / 65_536 % 256) as u8,
+        (distance / 256 % 256) as u8,
+        (distance % 256) as u8,
+    ]
+}

@@ -1,3 +1,0 @@
-pub mod Time
-pub mod Left
-pub mod Heads

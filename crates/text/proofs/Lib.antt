@@ -1,5 +1,0 @@
-pub mod Choice
-pub mod Reading
-pub mod Stopping
-pub mod Digits
-pub mod Storing

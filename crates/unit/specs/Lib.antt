@@ -1,4 +1,0 @@
-pub mod Lines
-pub mod Request
-pub mod Sum
-pub mod Sound

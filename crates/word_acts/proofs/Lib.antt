@@ -1,0 +1,4 @@
+pub mod Times
+pub mod ActLimits
+pub mod Keep
+pub mod WordLeaves

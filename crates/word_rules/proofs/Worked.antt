@@ -1,0 +1,18 @@
+-- The worked values hold of the definitions.
+use mathlib.Core.Path.{_≡_, refl}
+use mathlib.Core.List.{map}
+use lib.Count.{onesIn}
+use Rattle.counts.specs.First.{firstOf}
+use Rattle.drive_record.specs.Faults.{latchOf}
+use Rattle.drive_record.specs.Status.{completeB, protectedBit, stoppedBit, statusOf}
+use Rattle.word_acts.specs.Acts.{seekTime, busyFor, actedOf}
+use Rattle.word_table.specs.Word.{oddB, withParity}
+use Rattle.word_table.specs.Table.{rowOf, foundOf}
+use Rattle.word_table.specs.Effect.{optionB, operandB, blockedB, actOf, orderOf, effectOf}
+use Rattle.word_rules.specs.Responses.{configurationOf}
+use Rattle.word_rules.specs.Rules.{doneOf, carryOf, plainOf}
+use Rattle.word_rules.specs.Worked.{Line, afterWorked, table}
+
+pub worked-values : map (λ (l : Line). afterWorked (l .word)) table ≡ map (λ (l : Line). l .came) table
+unfolding onesIn firstOf latchOf completeB protectedBit stoppedBit statusOf seekTime busyFor actedOf oddB withParity rowOf foundOf optionB operandB blockedB actOf orderOf effectOf configurationOf doneOf carryOf plainOf
+worked-values = refl
