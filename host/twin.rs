@@ -311,8 +311,8 @@ fn last_trailer(left: &[u8]) -> [u8; TRAILER] {
 }
 
 /// One pack, read from the end of what is left. `slot_behind` is the slot of
-/// the pack read just before, which stands right behind this one. Reading
-/// 26: "Order per pack: 30, 31, 32, 33, 34, 35."
+/// the pack read just before, which stands right behind this one. As we read
+/// it: per pack 30 to 35 are tried in the order of their numbers.
 fn read_last_pack(left: &[u8], slot_behind: Option<u8>) -> Result<Pack, (u8, usize)> {
     let end = left.len();
     // "30 fewer than 44 bytes left"
@@ -358,7 +358,7 @@ pub fn read_packs(file: &[u8]) -> Result<Vec<Pack>, (u8, usize)> {
     }
     let mut packs: Vec<Pack> = Vec::new();
     let mut end = file.len();
-    // As we read it: "Nothing left ends the reading".
+    // As we read it: nothing left ends the reading.
     while end > 0 {
         let slot_behind = packs.last().map(|p| p.profile.slot);
         let pack = read_last_pack(&file[..end], slot_behind)?;
@@ -1448,7 +1448,7 @@ pub fn unlisted_bit_latched(chain: &Chain) -> bool {
     any_drive(chain, &|_, d| d.latched & !LATCHED_BITS != 0)
 }
 
-/// As we read it: "A drive's pack names its own slot."
+/// As we read it: a drive's pack names its own slot.
 pub fn pack_names_another_slot(chain: &Chain) -> bool {
     any_drive(chain, &|slot, d| d.profile.slot != slot)
 }
@@ -1532,7 +1532,7 @@ pub fn taking_count_is_not_the_handshakes(chain: &Chain) -> bool {
     })
 }
 
-/// As we read it: "Responding: 0 to 16 out at low, 1 to 17 at high."
+/// As we read it: responding, 0 to 16 out at low, 1 to 17 at high.
 pub fn responding_count_is_not_the_handshakes(chain: &Chain) -> bool {
     let (least, most) = if chain.request { (1, 17) } else { (0, 16) };
     any_drive(chain, &|_, d| {
@@ -1540,15 +1540,15 @@ pub fn responding_count_is_not_the_handshakes(chain: &Chain) -> bool {
     })
 }
 
-/// As we read it: "The collected bits are below two to the power of their
-/// count". (A count over 17 breaks the clause above; here it counts as 17.)
+/// As we read it: the collected bits are below two to the power of their
+/// count. (A count over 17 breaks the clause above; here it counts as 17.)
 pub fn taken_bits_over_their_count(chain: &Chain) -> bool {
     any_drive(chain, &|_, d| {
         d.transfer == Transfer::Taking && d.bits as u64 >= 1u64 << d.count.min(17)
     })
 }
 
-/// As we read it: "and a response below 2^17".
+/// As we read it: a response is below 2^17.
 pub fn response_over_17_bits(chain: &Chain) -> bool {
     any_drive(chain, &|_, d| d.transfer == Transfer::Responding && d.response >= 1 << 17)
 }

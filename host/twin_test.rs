@@ -1,6 +1,8 @@
-//! Tests of the twin: the paper's own values, one test or more for each
-//! reading, and random trials of soundness, refusals, demand 3 and the pack
-//! file. Figures are printed with `--nocapture`.
+//! Tests of the twin: the paper's own values, tests of how the paper is read,
+//! and random trials of soundness, refusals, demand 3 and the pack file. A
+//! test `decision_N` tries the decision of that number in docs/DECISIONS.md;
+//! `differences` is docs/DIFFERENCES.md. Figures are printed with
+//! `--nocapture`.
 
 use super::*;
 use std::collections::BTreeMap;
@@ -231,7 +233,7 @@ fn runner_drives_are_the_smallest() {
 }
 
 #[test]
-fn reading_28_lines() {
+fn decision_21_lines() {
     let unreadable: [&[u8]; 24] = [
         b"", b"0", b"0 0", b"0 0 0 0", b"0 0 0 ", b" 0 0 0", b"0  0 0", b"0 0  0", b"0\t0 0",
         b"0 0 0\r", b"+0 0 0", b"-0 0 0", b"0 0 -0", b"0 0 65536", b"65536 0 0", b"0 65536 0",
@@ -245,22 +247,22 @@ fn reading_28_lines() {
     }
     assert_eq!(event_of_line(b"65535 65535 65535"), Some((65_535, 65_535, 65_535)));
     assert_eq!(event_of_line(b"000 0001 00"), Some((0, 1, 0)));
-    // "Any number of leading zeros, lines of any length."
+    // Any number of leading zeros, lines of any length.
     let mut long = vec![b'0'; 100_000];
     long.extend_from_slice(b"6 5 0");
     assert_eq!(event_of_line(&long), Some((6, 5, 0)));
-    // "empty input prints nothing", an empty line is a line.
+    // Empty input prints nothing (decision 49), an empty line is a line.
     assert_eq!(Runner::smallest().run(b""), "");
     assert_eq!(Runner::smallest().run(b"\n"), "1 19 0 0\n");
     assert_eq!(Runner::smallest().run(b"0 1 0\n\n"), "1 0 0 51\n2 19 0 51\n");
-    // "The sum is taken after the event, also for refused ones".
+    // The sum is taken after the event, also after a refused one (decision 49).
     assert_eq!(Runner::smallest().run(b"0 1 0\n9 0 0\n0 8 0"), "1 0 0 51\n2 20 0 51\n3 21 0 51\n");
     // Up to 65,535 a number is readable and the event is refused.
     assert_eq!(Runner::smallest().run(b"65535 0 0\n0 65535 0\n"), "1 20 0 0\n2 21 0 0\n");
 }
 
 #[test]
-fn reading_28_sum_has_the_status_line() {
+fn decision_49_sum_has_the_status_line() {
     let mut b = Bench::of(&[smallest_drive(1)]);
     b.a(0, 1, 0);
     assert_eq!(b.sum(), 51);
@@ -411,11 +413,11 @@ fn easy_deselecting_during_a_seek_is_no_fault() {
 }
 
 // ===========================================================================
-// answers
+// Answers
 // ===========================================================================
 
 #[test]
-fn reading_01_word_faults_are_answered_on_the_17th_fall() {
+fn decision_34_word_faults_are_answered_on_the_17th_fall() {
     let mut b = rich_bench();
     assert_eq!(b.send(with_parity(0x2000) ^ 1), 5); // even parity
     assert_eq!(b.d(2).latched, B7);
@@ -428,7 +430,7 @@ fn reading_01_word_faults_are_answered_on_the_17th_fall() {
 }
 
 #[test]
-fn reading_01_transfer_dropped_by_time_is_5_and_kind_6_is_never_3() {
+fn decision_31_and_35_transfer_dropped_by_time_is_5_and_kind_6_is_never_3() {
     let mut b = rich_bench();
     b.bits(0, 3);
     assert_eq!(b.a(6, 10_000, 0), 0);
@@ -442,7 +444,7 @@ fn reading_01_transfer_dropped_by_time_is_5_and_kind_6_is_never_3() {
 }
 
 #[test]
-fn reading_01_leaving_is_5_even_into_an_empty_slot() {
+fn decision_34_leaving_is_5_even_into_an_empty_slot() {
     for to in [0, 1, 5].iter() {
         let mut b = rich_bench();
         b.bits(0, 1);
@@ -458,7 +460,7 @@ fn reading_01_leaving_is_5_even_into_an_empty_slot() {
 }
 
 #[test]
-fn reading_02_inhibition_is_a_drives() {
+fn decision_35_inhibition_is_a_drives() {
     let mut b = rich_bench();
     assert_eq!(b.a(0, 3, 0), 3);
     assert_eq!(b.a(2, 1, 0), 3);
@@ -468,7 +470,7 @@ fn reading_02_inhibition_is_a_drives() {
 }
 
 #[test]
-fn reading_03_a_line_set_to_its_level() {
+fn decision_35_a_line_set_to_its_level() {
     let mut b = rich_bench();
     for kind in 1..=5 {
         assert_eq!(b.a(kind, 0, 0), 0);
@@ -500,7 +502,7 @@ fn reading_03_a_line_set_to_its_level() {
 }
 
 #[test]
-fn reading_04_operands() {
+fn decision_36_operands() {
     let mut b = rich_bench();
     let most = [7, 15, 1, 1, 1, 1, 65_535];
     for kind in 0..=6u32 {
@@ -521,7 +523,7 @@ fn reading_04_operands() {
 }
 
 #[test]
-fn reading_05_25_is_tried_before_inhibition() {
+fn decision_37_25_is_tried_before_inhibition() {
     let mut b = rich_bench();
     assert_eq!(b.a(7, 4_100, 0), 25);
     assert_eq!(b.a(7, 4_099, 0), 4);
@@ -530,7 +532,7 @@ fn reading_05_25_is_tried_before_inhibition() {
 }
 
 #[test]
-fn reading_05_a_byte_written_that_was_there_is_2() {
+fn decision_37_a_byte_written_that_was_there_is_2() {
     let mut b = rich_bench();
     assert_eq!(b.a(2, 1, 0), 0);
     let before = b.file.clone();
@@ -542,7 +544,7 @@ fn reading_05_a_byte_written_that_was_there_is_2() {
 }
 
 #[test]
-fn reading_06_leaving_a_reading_drive_ends_its_reading() {
+fn decision_38_leaving_a_reading_drive_ends_its_reading() {
     for (to, answer) in [(0, 3), (1, 3), (5, 0)].iter() {
         let mut b = rich_bench();
         assert_eq!(b.a(3, 1, 0), 0);
@@ -557,7 +559,7 @@ fn reading_06_leaving_a_reading_drive_ends_its_reading() {
 }
 
 #[test]
-fn reading_07_order_of_refusals() {
+fn decision_32_and_51_order_of_refusals() {
     // Everything wrong at once, then less and less.
     let mut b = rich_bench();
     let good = b.chain;
@@ -579,11 +581,11 @@ fn reading_07_order_of_refusals() {
 }
 
 // ===========================================================================
-// gates, heads, select
+// Gates, heads, select
 // ===========================================================================
 
 #[test]
-fn reading_08_gate_on_is_the_lines_level() {
+fn decision_18_gate_on_is_the_lines_level() {
     // A write gate that was inhibited is on all the same.
     let mut b = rich_bench();
     b.a(8, 2, 1);
@@ -604,7 +606,7 @@ fn reading_08_gate_on_is_the_lines_level() {
 }
 
 #[test]
-fn reading_08_only_the_first_rule_applies() {
+fn decision_18_only_the_first_rule_applies() {
     // Read gate on, attention up, offset, not ready, lost: bit 6 alone.
     let mut b = rich_bench();
     b.a(3, 1, 0);
@@ -669,7 +671,7 @@ fn write_gate_bit_1_causes_each_alone() {
 }
 
 #[test]
-fn reading_09_read_gate_has_no_attention_test() {
+fn decision_18_and_50_read_gate_has_no_attention_test() {
     let mut b = Bench::of(&[rich(2, true)]);
     b.a(0, 2, 0);
     assert_eq!(b.d(2).latched, B8);
@@ -689,7 +691,7 @@ fn reading_09_read_gate_has_no_attention_test() {
 }
 
 #[test]
-fn reading_09_latching_ends_writing() {
+fn decision_17_and_18_latching_ends_writing() {
     for condition in 1..=2 {
         let mut b = rich_bench();
         b.a(2, 1, 0);
@@ -715,7 +717,7 @@ fn reading_09_latching_ends_writing() {
 }
 
 #[test]
-fn reading_10_gate_rising_with_a_transfer_open() {
+fn decision_39_gate_rising_with_a_transfer_open() {
     let mut b = rich_bench();
     b.bits(0, 2);
     assert_eq!(b.a(3, 1, 0), 4);
@@ -747,7 +749,7 @@ fn reading_10_gate_rising_with_a_transfer_open() {
 }
 
 #[test]
-fn reading_11_gates_and_completeness_are_asked_on_the_rise() {
+fn decision_39_gates_and_completeness_are_asked_on_the_rise() {
     // A gate that rose between the 17th rise and its fall.
     let mut b = rich_bench();
     let word17 = with_parity(0x0003);
@@ -771,16 +773,16 @@ fn reading_11_gates_and_completeness_are_asked_on_the_rise() {
 }
 
 #[test]
-fn reading_12_entering_a_drive_with_another_head() {
+fn decision_40_entering_a_drive_with_another_head() {
     let mut b = rich_bench();
     assert_eq!(b.a(0, 0, 0), 3);
-    // "Head lines moved with no fitted drive selected alter no drive."
+    // Head lines moved with no fitted drive selected alter no drive.
     assert_eq!(b.a(1, 1, 0), 3);
     assert_eq!((b.d(2).head, b.d(5).head), (0, 0));
     assert_eq!(b.a(0, 2, 0), 0);
     assert_eq!((b.d(2).head, b.d(2).head_timer, b.d(5).head), (1, 40, 0));
     assert_eq!(b.sum(), 1 + 2);
-    // "(a running one starts anew)"
+    // A timer that runs starts anew.
     assert_eq!(b.a(6, 30, 0), 0);
     assert_eq!(b.d(2).head_timer, 10);
     assert_eq!(b.a(1, 0, 0), 0);
@@ -801,7 +803,7 @@ fn reading_12_entering_a_drive_with_another_head() {
 }
 
 #[test]
-fn reading_13_head_change_while_writing() {
+fn decision_19_head_change_while_writing() {
     let mut b = rich_bench();
     b.a(2, 1, 0);
     assert_eq!(b.a(1, 1, 0), 5);
@@ -816,11 +818,11 @@ fn reading_13_head_change_while_writing() {
 }
 
 // ===========================================================================
-// time, motor, words
+// Time, motor, words
 // ===========================================================================
 
 #[test]
-fn reading_14_ten_thousand_microseconds() {
+fn decision_41_ten_thousand_microseconds() {
     for high in [false, true].iter() {
         for parts in [vec![10_000], vec![1, 9_999], vec![2_500; 4], vec![0, 10_000, 0]].iter() {
             let mut b = rich_bench();
@@ -835,15 +837,15 @@ fn reading_14_ten_thousand_microseconds() {
             assert_eq!(late.a(6, 1, 0), 5);
             assert_eq!((late.d(2).transfer, late.d(2).latched), (Transfer::None, B6));
             assert!(!late.d(2).acknowledge);
-            // "Both edges count."
+            // Both edges count.
             assert_eq!(b.a(5, !*high as u32, 0), 0);
             assert_eq!(b.d(2).waiting, 0);
             assert_eq!(b.a(6, 10_000, 0), 0);
             assert!(transfer_open(b.d(2)));
         }
     }
-    // "All timers fall by the whole time, also where the transfer is dropped
-    // within it."
+    // Timers fall by the whole time, also where the transfer is dropped
+    // within it.
     let mut b = rich_bench();
     b.bits(0, 3);
     b.dm(2).busy = 30_000;
@@ -863,7 +865,7 @@ fn reading_14_ten_thousand_microseconds() {
 }
 
 #[test]
-fn reading_15_starting_motor_is_up_whenever_busy_is_0() {
+fn decision_16_and_25_starting_motor_is_up_whenever_busy_is_0() {
     // By time.
     let mut b = rich_bench();
     assert_eq!(b.word(0x5200), 0);
@@ -915,7 +917,7 @@ fn starting_with_word(word17: u32) -> Bench {
 }
 
 #[test]
-fn reading_16_starting_counts_as_stopped_in_bit_9_alone() {
+fn decision_26_starting_counts_as_stopped_in_bit_9_alone() {
     let mut b = starting_with_word(with_parity(0x2000));
     assert_eq!(b.a(5, 0, 0), 0);
     assert_eq!(b.fetch() >> 1, 0x0200);
@@ -936,7 +938,7 @@ fn reading_16_starting_counts_as_stopped_in_bit_9_alone() {
 }
 
 #[test]
-fn reading_16_stop_when_stopped_and_start_when_up_do_nothing() {
+fn decision_26_stop_when_stopped_and_start_when_up_do_nothing() {
     let mut b = rich_bench();
     b.word(0x0004);
     b.a(6, 65_535, 0);
@@ -958,7 +960,7 @@ fn reading_16_stop_when_stopped_and_start_when_up_do_nothing() {
 }
 
 #[test]
-fn reading_17_hard_sectored_is_not_soft() {
+fn decision_27_hard_sectored_is_not_soft() {
     for (general, hard) in [(1u16, true), (2, true), (4, false)].iter() {
         let p = Profile {
             general: (rich(2, false).general & !7) | general,
@@ -976,7 +978,7 @@ fn reading_17_hard_sectored_is_not_soft() {
 }
 
 #[test]
-fn reading_18_order_of_a_whole_word() {
+fn decision_42_order_of_a_whole_word() {
     let mut d = fresh_drive(rich(2, false), 0);
     d.latched = 0;
     d.motor = Motor::Stopped;
@@ -1012,7 +1014,7 @@ fn reading_18_order_of_a_whole_word() {
 }
 
 #[test]
-fn reading_19_busy_is_set_and_only_by_these() {
+fn decision_25_and_50_busy_is_set_and_only_by_these() {
     let fresh = fresh_drive(rich(2, false), 0);
     let busy_after = |d: &Drive, word: u16| {
         let mut d = *d;
@@ -1033,7 +1035,7 @@ fn reading_19_busy_is_set_and_only_by_these() {
     // Outward: "Distance is the displacement without its sign."
     let far = Drive { cylinder: 9, ..fresh };
     assert_eq!(busy_after(&far, 0x0002), 149);
-    // "Busy is set, not added to", seen on a word taken while busy.
+    // Busy is set, not added to: seen on a word taken while busy.
     let mut b = starting_with_word(with_parity(0x8000));
     b.a(5, 0, 0);
     assert_eq!(b.d(2).busy, 300);
@@ -1072,7 +1074,7 @@ fn invalid_by_the_paper(p: &Profile, word: u16) -> bool {
 }
 
 #[test]
-fn reading_20_every_word_on_several_drives() {
+fn decision_43_every_word_on_several_drives() {
     let mut dice = Dice(20);
     let mut words = 0u32;
     let mut profiles = vec![worked_profile(), smallest_drive(1), rich(2, false), rich(2, true), soft(3)];
@@ -1103,7 +1105,7 @@ fn reading_20_every_word_on_several_drives() {
 }
 
 #[test]
-fn reading_20_and_29_single_words() {
+fn decision_43_and_differences_single_words() {
     let mut d = fresh_drive(rich(2, false), 0);
     for modifier in 9..=14u16 {
         assert_eq!(plain_word(&mut d, with_parity(0x3000 | modifier << 8)), Some(with_parity(0)));
@@ -1154,7 +1156,7 @@ fn configuration_words() {
 }
 
 #[test]
-fn reading_21_plain_word_on_a_drive_that_reads_or_writes_or_is_busy() {
+fn decision_44_plain_word_on_a_drive_that_reads_or_writes_or_is_busy() {
     let fresh = fresh_drive(rich(2, false), 0);
     let reads = Drive { reading: true, ..fresh };
     let mut d = reads;
@@ -1184,7 +1186,7 @@ fn any_response_is_fixed_on_the_17th_fall() {
 }
 
 // ===========================================================================
-// the record, clause by clause
+// The record, clause by clause
 // ===========================================================================
 
 /// What a change of a sound record breaks.
@@ -1272,7 +1274,7 @@ fn limits_are_clauses() {
 }
 
 #[test]
-fn reading_22_places() {
+fn decision_45_places() {
     let b = rich_bench();
     let by = |change: &dyn Fn(&mut Chain)| broken_by(&b, change);
     let place = vec!["place_not_from_the_file_rules"];
@@ -1297,11 +1299,11 @@ fn reading_22_places() {
     assert_eq!(by(&|c| c.drives[1] = None), place);
     assert_eq!(by(&|c| c.drives[4] = None), place);
     assert_eq!(by(&|c| drive5(c).profile.slot = 6), vec!["pack_names_another_slot"]);
-    // "With no drive the length is 0."
+    // With no drive the length is 0.
     let none = Bench::of(&[]);
     assert_eq!(none.chain.length, 0);
     assert_eq!(broken_by(&none, &|c| c.length = 1), place);
-    // "at most 2,147,483,647"
+    // At most 2,147,483,647.
     let big = Profile { cylinders: 4_096, heads: 16, track: 32_768, ..smallest_drive(1) };
     assert!(valid_profile(&big));
     let chain_of = |p: Profile| Chain {
@@ -1316,7 +1318,7 @@ fn reading_22_places() {
 }
 
 #[test]
-fn reading_22_fresh_chains_and_file_rules_agree() {
+fn decision_45_fresh_chains_and_file_rules_agree() {
     // For every set of slots the fresh chain's places are those of reading.
     for set in 0..128u32 {
         let profiles: Vec<Profile> = (1..=7u8)
@@ -1334,7 +1336,7 @@ fn reading_22_fresh_chains_and_file_rules_agree() {
 }
 
 #[test]
-fn reading_23_open_transfers() {
+fn decision_30_and_46_open_transfers() {
     let nothing: Vec<&str> = Vec::new();
     for request in [false, true].iter() {
         let mut base = rich_bench();
@@ -1416,7 +1418,7 @@ fn reading_23_open_transfers() {
 }
 
 #[test]
-fn reading_24_reading_and_writing() {
+fn decision_47_reading_and_writing() {
     let mut reads = rich_bench();
     reads.a(3, 1, 0);
     let mut writes = rich_bench();
@@ -1487,7 +1489,7 @@ fn every_clause_has_been_seen_alone() {
 }
 
 // ===========================================================================
-// As we read it: demand 3 by random trials
+// Demand 3 by random trials
 // ===========================================================================
 
 /// A wait of `total` microseconds as a list of passing events.
@@ -1570,7 +1572,7 @@ fn by_plain_word(b: &mut Bench, word17: u32, waits: &[u32]) -> Option<u32> {
 }
 
 #[test]
-fn reading_25_demand_3() {
+fn decision_48_demand_3() {
     let mut dice = Dice(25);
     let mut tried = BTreeMap::new();
     let mut words = 0u32;
@@ -1624,7 +1626,7 @@ fn reading_25_demand_3() {
 }
 
 #[test]
-fn reading_25_a_gate_on_that_began_nothing_needs_the_premise() {
+fn decision_48_a_gate_on_that_began_nothing_needs_the_premise() {
     let mut b = rich_bench();
     b.a(8, 2, 1);
     assert_eq!(b.a(2, 1, 0), 4);
@@ -2352,7 +2354,7 @@ fn plain_word_takes_any_drive() {
 }
 
 // ===========================================================================
-// the pack file
+// The pack file
 // ===========================================================================
 
 #[test]
@@ -2415,7 +2417,7 @@ fn spoiled(at: usize, byte: u8) -> (u8, usize) {
 }
 
 #[test]
-fn reading_26_what_is_left() {
+fn decision_05_what_is_left() {
     assert_eq!(read_answer(&[]), (0, 0));
     assert_eq!(read_packs(&[]), Ok(vec![]));
     for n in 1..=43 {
@@ -2440,7 +2442,7 @@ fn reading_26_what_is_left() {
 }
 
 #[test]
-fn reading_26_order_per_pack() {
+fn decision_05_order_per_pack() {
     let end = one_pack().len();
     let spoil = |changes: &[(usize, u8)]| {
         let mut file = one_pack();
@@ -2466,7 +2468,7 @@ fn reading_26_order_per_pack() {
 }
 
 #[test]
-fn reading_26_fields() {
+fn decision_04_fields() {
     let end = one_pack().len();
     // The zero places.
     for at in [1, 15, 38].iter() {
@@ -2516,7 +2518,7 @@ fn reading_26_fields() {
 }
 
 #[test]
-fn reading_26_general_words() {
+fn decision_04_general_words() {
     // Every general word, against the sentence written out again.
     let mut good = 0;
     for general in 0..=65_535u16 {
@@ -2543,7 +2545,7 @@ fn reading_26_general_words() {
 }
 
 #[test]
-fn reading_26_slots_rising() {
+fn decision_05_slots_rising() {
     let a = smallest_drive(2);
     let both = |front: u8, behind: u8| {
         let mut file = file_of_packs(&[Profile { slot: front, ..a }]);
@@ -2552,12 +2554,12 @@ fn reading_26_slots_rising() {
     };
     for front in 1..=7u8 {
         for behind in 1..=7u8 {
-            // "35's place is the end of the pack in front"
+            // 35's place is the end of the pack in front.
             let answer = if front < behind { (0, 0) } else { (35, 4_139) };
             assert_eq!(read_answer(&both(front, behind)), answer);
         }
     }
-    // "before anything further in front is read"
+    // Nothing further in front is read first.
     let mut file = vec![9; 10];
     file.extend_from_slice(&both(5, 5));
     assert_eq!(read_answer(&file), (35, 4_149));
@@ -2575,7 +2577,7 @@ fn reading_26_slots_rising() {
 }
 
 #[test]
-fn reading_26_too_long_a_file() {
+fn decision_11_too_long_a_file() {
     // The zeroed pages are never touched: 36 looks at the length alone.
     let file = vec![0u8; 2_147_483_648];
     assert_eq!(read_answer(&file), (36, 0));
@@ -2584,7 +2586,7 @@ fn reading_26_too_long_a_file() {
 }
 
 #[test]
-fn reading_27_laying() {
+fn decision_05_and_06_laying() {
     let p = smallest_drive(4);
     let length = pack_length(&p) as usize;
     // Bytes past the pack stay, the medium is zeroed.
