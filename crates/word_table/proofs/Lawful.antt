@@ -30,44 +30,44 @@ Lawful p (Does act) = Allowed p act
 
 -- the row that sets the sector size needs a hard sectored drive
 abbrev hardB : Row → Bool
-hardB r = if eqb (r .5) sector then eqb (r .3) hard else true
+hardB r = if eqb (r .act) sector then eqb (r .option) hard else true
 
 found-hard : (code modifier : ℕ) → hardB (foundOf code modifier) ≡ true
 unfolding foundOf
 found-hard code modifier = every-at hardB rows (rowOf code modifier) invalidRow refl refl
 
 module _ (p : Profile) (r : Row) (w : ℕ) (table : hardB r ≡ true) (v : wordValidB p r w ≡ true) where
-  abbrev parts : (optionB p (r .3) ≡ true) × (operandB p (r .5) w ≡ true)
-  parts = both (optionB p (r .3)) (operandB p (r .5) w) v
+  abbrev parts : (optionB p (r .option) ≡ true) × (operandB p (r .act) w ≡ true)
+  parts = both (optionB p (r .option)) (operandB p (r .act) w) v
 
-  seek-lawful : eqb (r .5) seek ≡ true → bits11to0 w < p .shape .cylinders .0
+  seek-lawful : eqb (r .act) seek ≡ true → bits11to0 w < p .shape .cylinders .0
   unfolding operandB
   seek-lawful e = ltb-true _ _ (rw e at (parts .1))
 
-  hard-sectored : eqb (r .5) sector ≡ true → soft (p .general) ≡ false
+  hard-sectored : eqb (r .act) sector ≡ true → soft (p .general) ≡ false
   unfolding optionB
-  hard-sectored e = not-true (soft (p .general)) (rw (eqb-true (r .3) hard (rw e at table)) at (parts .0))
+  hard-sectored e = not-true (soft (p .general)) (rw (eqb-true (r .option) hard (rw e at table)) at (parts .0))
 
-  sector-lawful : eqb (r .5) seek ≡ false → eqb (r .5) sector ≡ true → sectorOk (soft (p .general)) (bits11to0 w) ≡ true
+  sector-lawful : eqb (r .act) seek ≡ false → eqb (r .act) sector ≡ true → sectorOk (soft (p .general)) (bits11to0 w) ≡ true
   unfolding operandB
   sector-lawful d e = rw (hard-sectored e) (rw (d, e) at (parts .1))
 
-  act-lawful : Lawful p (actOf (r .5) w)
+  act-lawful : Lawful p (actOf (r .act) w)
   unfolding actOf
   act-lawful =
       let or = by-test (Lawful p) in
-      or (eqb (r .5) seek) _ _ seek-lawful λ notSeek.
-      or (eqb (r .5) recalibrate) _ _ (λ _. tt) λ _.
-      or (eqb (r .5) status) _ _ (λ _. tt) λ _.
-      or (eqb (r .5) configuration) _ _ (λ _. tt) λ _.
-      or (eqb (r .5) clear) _ _ (λ _. tt) λ _.
-      or (eqb (r .5) stop) _ _ (λ _. tt) λ _.
-      or (eqb (r .5) start) _ _ (λ _. tt) λ _.
-      or (eqb (r .5) restore) _ _ (λ _. omega arith) λ _.
-      or (eqb (r .5) plus) _ _ (λ _. omega arith) λ _.
-      or (eqb (r .5) minus) _ _ (λ _. omega arith) λ _.
-      or (eqb (r .5) diagnose) _ _ (λ _. tt) λ _.
-      or (eqb (r .5) sector) _ _ (sector-lawful notSeek) λ _.
+      or (eqb (r .act) seek) _ _ seek-lawful λ notSeek.
+      or (eqb (r .act) recalibrate) _ _ (λ _. tt) λ _.
+      or (eqb (r .act) status) _ _ (λ _. tt) λ _.
+      or (eqb (r .act) configuration) _ _ (λ _. tt) λ _.
+      or (eqb (r .act) clear) _ _ (λ _. tt) λ _.
+      or (eqb (r .act) stop) _ _ (λ _. tt) λ _.
+      or (eqb (r .act) start) _ _ (λ _. tt) λ _.
+      or (eqb (r .act) restore) _ _ (λ _. omega arith) λ _.
+      or (eqb (r .act) plus) _ _ (λ _. omega arith) λ _.
+      or (eqb (r .act) minus) _ _ (λ _. omega arith) λ _.
+      or (eqb (r .act) diagnose) _ _ (λ _. tt) λ _.
+      or (eqb (r .act) sector) _ _ (sector-lawful notSeek) λ _.
       (omega arith, refl)
 
 order-lawful : (p : Profile) (b : Body) (n : ℕ) (r : Row) (w : ℕ) → hardB r ≡ true → Lawful p (orderOf p b n r w)
@@ -76,7 +76,7 @@ order-lawful p b n r w table =
     let or = by-test (Lawful p) in
     or (not (oddB n)) _ _ (λ _. (omega arith, refl)) λ _.
     or (not (wordValidB p r w)) _ _ (λ _. (omega arith, refl)) λ v.
-    or (blockedB b (r .4)) _ _ (λ _. (omega arith, refl)) λ _.
+    or (blockedB b (r .asks)) _ _ (λ _. (omega arith, refl)) λ _.
     act-lawful p r w table (not-false (wordValidB p r w) v)
 
 pub effect-lawful : (p : Profile) (b : Body) (n : ℕ) → Lawful p (effectOf p b n)

@@ -13,7 +13,7 @@ use Rattle.word_table.specs.declared.table.Row.{Row}
 use Rattle.word_table.specs.declared.Effect.{Effect}
 use Rattle.word_table.specs.declared.Effect.the-variants.{Fails, Status, Configuration, Does}
 use Rattle.word_table.specs.Word.{sixteenOf, codeOf, modifierOf, bits11to0, oddB}
-use Rattle.word_table.specs.Table.{motor, offsets, hard, ready, position, seek, recalibrate, status, configuration, clear, stop, start, restore, plus, minus, diagnose, sector, optionIn, asksIn, actIn, foundOf}
+use Rattle.word_table.specs.Table.{motor, offsets, hard, ready, position, seek, recalibrate, status, configuration, clear, stop, start, restore, plus, minus, diagnose, sector, foundOf}
 
 -- "with motor option", "with offset option", "hard sectored"
 unfoldable pub optionB : Profile → ℕ → Bool
@@ -34,7 +34,7 @@ operandB p act w =
     else eqb (w % 256) 0  -- "so are non-zero bits 7..0 outside 0 and 9"
 
 abbrev pub wordValidB : Profile → Row → ℕ → Bool
-wordValidB p r w = optionB p (optionIn r) && operandB p (actIn r) w
+wordValidB p r w = optionB p (r .option) && operandB p (r .act) w
 
 unfoldable pub blockedB : Body → ℕ → Bool
 blockedB b asks =
@@ -63,8 +63,8 @@ unfoldable pub orderOf : Profile → Body → ℕ → Row → ℕ → Effect
 orderOf p b n r w =
     if not (oddB n) then Fails (2 ^ 7)  -- "even parity, bit 7"
     else if not (wordValidB p r w) then Fails (2 ^ 5)  -- "invalid, bit 5"
-    else if blockedB b (asksIn r) then Fails (2 ^ 4)  -- "when not ready, bit 4; .. with position lost, bit 4"
-    else actOf (actIn r) w  -- "else carried out"
+    else if blockedB b (r .asks) then Fails (2 ^ 4)  -- "when not ready, bit 4; .. with position lost, bit 4"
+    else actOf (r .act) w  -- "else carried out"
 
 unfoldable pub effectOf : Profile → Body → ℕ → Effect
 effectOf p b n = orderOf p b n (foundOf (codeOf (sixteenOf n)) (modifierOf (sixteenOf n))) (sixteenOf n)

@@ -8,9 +8,9 @@ use Rattle.counts.specs.Tests.{allOf}
 use Rattle.counts.specs.First.{firstOf}
 use Rattle.word_table.specs.declared.table.Row.{Row}
 
--- the option needed
-abbrev pub any : ℕ
-any = 0
+-- the option needed, or none
+abbrev pub free : ℕ
+free = 0
 
 abbrev pub motor : ℕ
 motor = 1
@@ -73,45 +73,27 @@ sector = 12
 
 -- a code, its modifiers from the first to the last, the option needed, what is asked of the drive, the act
 abbrev pub row : ℕ → ℕ → ℕ → ℕ → ℕ → ℕ → Row
-row code from to option asks act = record { 0 = code; 1 = from; 2 = to; 3 = option; 4 = asks; 5 = act }
-
-abbrev pub codeIn : Row → ℕ
-codeIn r = r .0
-
-abbrev pub fromIn : Row → ℕ
-fromIn r = r .1
-
-abbrev pub toIn : Row → ℕ
-toIn r = r .2
-
-abbrev pub optionIn : Row → ℕ
-optionIn r = r .3
-
-abbrev pub asksIn : Row → ℕ
-asksIn r = r .4
-
-abbrev pub actIn : Row → ℕ
-actIn r = r .5
+row code from to option asks act = record { code = code; from = from; to = to; option = option; asks = asks; act = act }
 
 abbrev pub commands : List Row
 commands =
-    row 0 0 15 any position seek  -- "seek, bits 11..0"
-    ∷ row 1 0 0 any ready recalibrate  -- "recalibrate": "modifier 0"
-    ∷ row 2 0 0 any nothing status  -- "request status": "modifier 0"
-    ∷ row 3 0 15 any nothing configuration  -- "request configuration": "any"
-    ∷ row 5 0 0 any nothing clear  -- "control": "0", "0 clears latched bits"
+    row 0 0 15 free position seek  -- "seek, bits 11..0"
+    ∷ row 1 0 0 free ready recalibrate  -- "recalibrate": "modifier 0"
+    ∷ row 2 0 0 free nothing status  -- "request status": "modifier 0"
+    ∷ row 3 0 15 free nothing configuration  -- "request configuration": "any"
+    ∷ row 5 0 0 free nothing clear  -- "control": "0", "0 clears latched bits"
     ∷ row 5 2 2 motor nothing stop  -- "2, 3 with motor option", "2 stops"
     ∷ row 5 3 3 motor nothing start  -- "3 starts"
     ∷ row 7 0 1 offsets position restore  -- "track offset": "0..3 with offset option", "0, 1 restore"
     ∷ row 7 2 2 offsets position plus  -- "2 is +1"
     ∷ row 7 3 3 offsets position minus  -- "3 is −1"
-    ∷ row 8 0 0 any nothing diagnose  -- "diagnostics": "modifier 0"
+    ∷ row 8 0 0 free nothing diagnose  -- "diagnostics": "modifier 0"
     ∷ row 9 0 15 hard nothing sector  -- "set bytes per sector, bits 11..0": "hard sectored"
     ∷ []
 
 -- "Other codes are invalid"
 abbrev pub invalidRow : Row
-invalidRow = row 0 0 0 any nothing invalid
+invalidRow = row 0 0 0 free nothing invalid
 
 -- the invalid row stands behind the commands
 abbrev pub rows : List Row
@@ -119,7 +101,7 @@ rows = commands ++ (invalidRow ∷ [])
 
 -- whose "code and range fit"
 abbrev pub fitsB : ℕ → ℕ → Row → Bool
-fitsB code modifier r = allOf (eqb (codeIn r) code ∷ leb (fromIn r) modifier ∷ leb modifier (toIn r) ∷ [])
+fitsB code modifier r = allOf (eqb (r .code) code ∷ leb (r .from) modifier ∷ leb modifier (r .to) ∷ [])
 
 -- the number of "the first row", or that of the invalid row behind them
 unfoldable pub rowOf : ℕ → ℕ → ℕ

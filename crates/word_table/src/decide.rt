@@ -104,9 +104,9 @@ fn blocked(b: Body, asks: u8) -> bool
 fn order(p: Profile, b: Body, n: u32, r: Row, w: u16) -> Effect
     ensures { λ e. ⌜ e ≡ orderOf p b n r w ⌝ }
 {
-    let option = r.3;
-    let asks = r.4;
-    let act = r.5;
+    let option = r.option;
+    let asks = r.asks;
+    let act = r.act;
     let invalid = !(option_met(p, option) & operand_ok(p, act, w));
     let stuck = blocked(b, asks);
     if !odd(n) {

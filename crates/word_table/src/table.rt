@@ -3,11 +3,18 @@ ghost use mathlib.Core.Path.{_≡_};
 ghost use Rattle.word_table.specs.Table.{fitsB, rowOf, foundOf};
 
 // A code, its modifiers from the first to the last, the option needed, what is asked of the drive, the act.
-pub struct Row(pub u8, pub u8, pub u8, pub u8, pub u8, pub u8);
+pub struct Row {
+    pub code: u8,
+    pub from: u8,
+    pub to: u8,
+    pub option: u8,
+    pub asks: u8,
+    pub act: u8,
+}
 
 impl Row {
     // The option needed.
-    pub const ANY: u8 = 0;
+    pub const FREE: u8 = 0;
 
     pub const MOTOR: u8 = 1;
 
@@ -54,27 +61,116 @@ impl Row {
 }
 
 const ROWS: [Row; 13] = [
-    Row(0, 0, 15, Row::ANY, Row::POSITION, Row::SEEK),
-    Row(1, 0, 0, Row::ANY, Row::READY, Row::RECALIBRATE),
-    Row(2, 0, 0, Row::ANY, Row::NOTHING, Row::STATUS),
-    Row(3, 0, 15, Row::ANY, Row::NOTHING, Row::CONFIGURATION),
-    Row(5, 0, 0, Row::ANY, Row::NOTHING, Row::CLEAR),
-    Row(5, 2, 2, Row::MOTOR, Row::NOTHING, Row::STOP),
-    Row(5, 3, 3, Row::MOTOR, Row::NOTHING, Row::START),
-    Row(7, 0, 1, Row::OFFSETS, Row::POSITION, Row::RESTORE),
-    Row(7, 2, 2, Row::OFFSETS, Row::POSITION, Row::PLUS),
-    Row(7, 3, 3, Row::OFFSETS, Row::POSITION, Row::MINUS),
-    Row(8, 0, 0, Row::ANY, Row::NOTHING, Row::DIAGNOSE),
-    Row(9, 0, 15, Row::HARD, Row::NOTHING, Row::SECTOR),
-    Row(0, 0, 0, Row::ANY, Row::NOTHING, Row::INVALID),
+    Row {
+        code: 0,
+        from: 0,
+        to: 15,
+        option: Row::FREE,
+        asks: Row::POSITION,
+        act: Row::SEEK,
+    },
+    Row {
+        code: 1,
+        from: 0,
+        to: 0,
+        option: Row::FREE,
+        asks: Row::READY,
+        act: Row::RECALIBRATE,
+    },
+    Row {
+        code: 2,
+        from: 0,
+        to: 0,
+        option: Row::FREE,
+        asks: Row::NOTHING,
+        act: Row::STATUS,
+    },
+    Row {
+        code: 3,
+        from: 0,
+        to: 15,
+        option: Row::FREE,
+        asks: Row::NOTHING,
+        act: Row::CONFIGURATION,
+    },
+    Row {
+        code: 5,
+        from: 0,
+        to: 0,
+        option: Row::FREE,
+        asks: Row::NOTHING,
+        act: Row::CLEAR,
+    },
+    Row {
+        code: 5,
+        from: 2,
+        to: 2,
+        option: Row::MOTOR,
+        asks: Row::NOTHING,
+        act: Row::STOP,
+    },
+    Row {
+        code: 5,
+        from: 3,
+        to: 3,
+        option: Row::MOTOR,
+        asks: Row::NOTHING,
+        act: Row::START,
+    },
+    Row {
+        code: 7,
+        from: 0,
+        to: 1,
+        option: Row::OFFSETS,
+        asks: Row::POSITION,
+        act: Row::RESTORE,
+    },
+    Row {
+        code: 7,
+        from: 2,
+        to: 2,
+        option: Row::OFFSETS,
+        asks: Row::POSITION,
+        act: Row::PLUS,
+    },
+    Row {
+        code: 7,
+        from: 3,
+        to: 3,
+        option: Row::OFFSETS,
+        asks: Row::POSITION,
+        act: Row::MINUS,
+    },
+    Row {
+        code: 8,
+        from: 0,
+        to: 0,
+        option: Row::FREE,
+        asks: Row::NOTHING,
+        act: Row::DIAGNOSE,
+    },
+    Row {
+        code: 9,
+        from: 0,
+        to: 15,
+        option: Row::HARD,
+        asks: Row::NOTHING,
+        act: Row::SECTOR,
+    },
+    Row {
+        code: 0,
+        from: 0,
+        to: 0,
+        option: Row::FREE,
+        asks: Row::NOTHING,
+        act: Row::INVALID,
+    },
 ];
 
 fn row_fits(r: Row, code: u8, modifier: u8) -> bool
     ensures { λ b. ⌜ b ≡ fitsB code modifier r ⌝ }
 {
-    let from = r.1;
-    let to = r.2;
-    (r.0 == code) & (from <= modifier) & (modifier <= to)
+    (r.code == code) & (r.from <= modifier) & (modifier <= r.to)
 }
 
 // The number of the first row that fits, or the invalid row's.
