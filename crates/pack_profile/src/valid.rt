@@ -2,7 +2,14 @@
 use crate::Profile;
 use crate::general;
 ghost use mathlib.Core.Path.{_≡_};
-ghost use Rattle.pack_profile.specs.Valid.{sectorOk, validB};
+ghost use Rattle.pack_profile.specs.Valid.{hardSize, sectorOk, validB};
+
+// The sector sizes of a hard sectored drive.
+pub fn hard_size(size: u16) -> bool
+    ensures { λ r. ⌜ r ≡ hardSize size ⌝ }
+{
+    (Profile::SMALLEST_SECTOR <= size) & (size <= Profile::LARGEST_SECTOR)
+}
 
 // Whether a sector size may stand.
 pub fn sector_ok(soft: bool, size: u16) -> bool
@@ -11,7 +18,7 @@ pub fn sector_ok(soft: bool, size: u16) -> bool
     if soft {
         return size == 0;
     }
-    (Profile::SMALLEST_SECTOR <= size) & (size <= Profile::LARGEST_SECTOR)
+    hard_size(size)
 }
 
 // Whether every field is one that may stand.

@@ -60,7 +60,7 @@ fn option_met(p: Profile, option: u8) -> bool
 fn size_ok(size: u16) -> bool
     ensures { λ r. ⌜ r ≡ sizeB size ⌝ }
 {
-    (Profile::SMALLEST_SECTOR <= size) & (size <= Profile::LARGEST_SECTOR)
+    pack_profile::valid::hard_size(size)
 }
 
 fn operand_ok(p: Profile, act: u8, w: u16) -> bool
