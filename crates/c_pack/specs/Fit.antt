@@ -7,6 +7,7 @@ use Rattle.pack_read.specs.Refusal.{readNumber, readPlace}
 use Rattle.chain_record.specs.declared.Chain.{Chain}
 use Rattle.chain_fit.specs.Fresh as fresh
 use Rattle.c_pack.specs.declared.Coded.{Coded}
+use Rattle.c_pack.specs.Code.{secondByte, highHalf}
 
 -- a refused file leaves the record as it was
 abbrev pub fittedOr : Answer → Chain → Chain → Chain
@@ -15,8 +16,8 @@ fittedOr (Refused why place) found c = c
 
 -- "Refusals, with the pack's end as place (0 for 36)": the number in the low byte, the place in the high half; of a file that is taken, n in the second byte
 abbrev pub readCode : Answer → ℕ → ℕ
-readCode Whole n = n * 256
-readCode (Refused why place) n = readNumber (Refused why place) + readPlace (Refused why place) * 4_294_967_296
+readCode Whole n = n * secondByte
+readCode (Refused why place) n = readNumber (Refused why place) + readPlace (Refused why place) * highHalf
 
 unfoldable pub lentFit : Chain → List ℕ → Coded
 lentFit c file = record { chain = fittedOr (fresh.freshFit file .answer) (fresh.freshFit file .chain) c; code = readCode (fresh.freshFit file .answer) 0 }

@@ -1,2 +1,3 @@
+pub mod Code
 pub mod Fit
 pub mod FilePacks

@@ -19,9 +19,9 @@ pub(crate) fn read_code(answer: Answer, n: u8) -> u64
     ensures { λ r. ⌜ r ≡ readCode answer n ⌝ }
 {
     match answer {
-        Answer::Whole => n as u64 * 256,
+        Answer::Whole => n as u64 * Coded::SECOND_BYTE,
         Answer::Refused(why, place) => pack_read::number(why) as u64
-            + place.0 as u64 * 4_294_967_296,
+            + place.0 as u64 * Coded::HIGH_HALF,
     }
 }
 

@@ -9,3 +9,9 @@ pub struct Coded {
     pub chain: Chain,
     pub code: u64,
 }
+
+impl Coded {
+    pub const SECOND_BYTE: u64 = 256;
+
+    pub const HIGH_HALF: u64 = 4_294_967_296;
+}

@@ -1,6 +1,5 @@
 // The status of a pack file, and a pack laid, in numbers.
 use crate::fit;
-use pack_lay::Laid;
 use pack_profile::Profile;
 use pack_read::Pack;
 use pack_read::read;
@@ -12,7 +11,7 @@ ghost use lib.ListN.{length};
 fn one(p: Pack) -> u8
     ensures { λ r. ⌜ OneIs p r ⌝ }
 {
-    if p.fitted == 1 {
+    if pack_read::fitted(p) {
         return 1;
     }
     0
@@ -48,18 +47,9 @@ pub fn pack_at(file: &[u8], slot: u32) -> Pack
     chain_record::slots::pack_in(slots, slot as u8)
 }
 
-fn laid_number(laid: Laid) -> u32
-    ensures { λ r. ⌜ r ≡ laidNumber laid ⌝ }
-{
-    match laid {
-        Laid::Done => 0,
-        Laid::Refused(why) => pack_read::number(why) as u32,
-    }
-}
-
 // A pack laid at the start of the lent part: 0, 33, 36 or 37.
 pub fn laid(p: Profile, buffer: &mut [u8]) -> u32
     ensures { λ r. ⌜ (r ≡ laidNumber (laidAnswer p (length (now (buffer .entry))))) × (now (buffer .exit) ≡ laidBytes p (now (buffer .entry))) ⌝ }
 {
-    laid_number(pack_lay::lay(p, buffer))
+    pack_lay::number(pack_lay::lay(p, buffer)) as u32
 }
