@@ -127,16 +127,15 @@ module _ (c : Chain) (file : List ℕ) (r : Resting c) where
     no-write : b₁ .writing ≡ 0
     no-write = writing-kept us b (write-gate-off p (c .lines) (driveOf c) drives (λ (on : c .lines .writegate ≡ 1). omega (arith, r .writegate)))
 
-    carries : calmB b₁ ≡ true → plain n (passed us c) ≡ record { state = stateOf (carryOf p b₁ n .body) noTransfer; told = carryOf p b₁ n .told }
+    carries : calmB b₁ ≡ true → plain n (passed us c) ≡ record { state = stateOf (carryOf p b₁ n .body) noTransfer; told = carryOf p b₁ n .told; outcome = carryOf p b₁ n .outcome }
     carries q = plain-passed ∙ plain-carries p n b₁ no-read no-write q
 
     refuses : calmB b₁ ≡ false → plain n (passed us c) .state ≡ stateOf (latchBit 6 b₁) noTransfer
     refuses q = ap (λ (a : Answered). a .state) (plain-passed ∙ plain-refuses p n b₁ no-read no-write q)
 
-    fall-is : fallAnswer n (passed us c) ≡ alone.unitFallAnswer (drive p .carry n b₁)
-    fall-is =
-        ap₂ (λ (q : Profile) (s : State). answerNumber (outcomeAnswer (carryOf q (s .body) n .outcome))) (same-profile us) (drive-passed us)
-        ∙ carry-answer p b₁ n
+    -- a calm drive with no transfer is complete, so that the plain word rules carry the word out
+    fall-is : calmB b₁ ≡ true → fallAnswer n (passed us c) ≡ alone.unitFallAnswer (drive p .carry n b₁)
+    fall-is q = ap (λ (a : Answered). answerNumber (outcomeAnswer (a .outcome))) (carries q) ∙ carry-answer p b₁ n
 
     -- what the plain word rules leave, the others' time passed and the data level apart
     ended : (level : ℕ) (body : Body) → plain n (passed us c) .state ≡ stateOf body noTransfer
@@ -211,7 +210,7 @@ module _ (w : Sending) (d : Lent) (fit : InTime w) (r : Resting (d .chain)) wher
         ∙ ap (λ (b′ : Body). stateOf (carryOf p₀ b′ n₀ .body) noTransfer) same
 
     fall : alone.unitFallAnswer (carriedBy (carryOf p₀ body₀ n₀)) ≡ fallAnswer n₀ (risen w d)
-    fall = sym (fall-is c₀ (d .file) r t₀ n₀)
+    fall = sym (fall-is c₀ (d .file) r t₀ n₀ q)
 
     carried-alike : (t : Told) → lent (alone.done w l₀ (carriedBy (carryOf p₀ body₀ n₀)) (toldOf t)) ≡ carried w d t
     carried-alike Nothing =

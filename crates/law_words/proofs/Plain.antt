@@ -8,6 +8,7 @@ use Rattle.pack_profile.specs.declared.Profile.{Profile}
 use Rattle.handshake.specs.Transfer.{noTransfer}
 use Rattle.handshake.specs.Edges.{waitOf}
 use Rattle.drive_record.specs.declared.Body.{Body}
+use Rattle.drive_record.specs.declared.Outcome.the-variants.{Fault}
 use Rattle.drive_record.specs.State.{stateOf}
 use Rattle.drive_record.specs.Faults.{latchBit}
 use Rattle.drive_record.specs.Status.{calmB, completeB}
@@ -19,11 +20,11 @@ use Rattle.law_exchange.specs.Host.{Bit}
 use Rattle.law_exchange.specs.Waits.{timeOf, sentTime}
 
 module _ (p : Profile) (n : ℕ) (b : Body) (reading : b .reading ≡ 0) (writing : b .writing ≡ 0) where
-  pub plain-carries : calmB b ≡ true → plainOf p (stateOf b noTransfer) n ≡ answered (carryOf p b n .told) (stateOf (carryOf p b n .body) noTransfer)
+  pub plain-carries : calmB b ≡ true → plainOf p (stateOf b noTransfer) n ≡ answered (carryOf p b n .outcome) (carryOf p b n .told) (stateOf (carryOf p b n .body) noTransfer)
   unfolding plainOf completeB
   plain-carries q = rw (reading, writing, q)
 
-  pub plain-refuses : calmB b ≡ false → plainOf p (stateOf b noTransfer) n ≡ answered Nothing (stateOf (latchBit 6 b) noTransfer)
+  pub plain-refuses : calmB b ≡ false → plainOf p (stateOf b noTransfer) n ≡ answered Fault Nothing (stateOf (latchBit 6 b) noTransfer)
   unfolding plainOf completeB
   plain-refuses q = rw (reading, writing, q)
 

@@ -11,7 +11,7 @@ use Rattle.drive_record.specs.Status.{completeB}
 use Rattle.word_rules.specs.declared.Told.{Told}
 use Rattle.word_rules.specs.declared.Told.the-variants.{Nothing, Word}
 use Rattle.word_rules.specs.declared.Answered.{Answered}
-use Rattle.word_rules.specs.Rules.{carryOf, plainOf}
+use Rattle.word_rules.specs.Rules.{plainOf}
 use Rattle.event.specs.declared.Event.the-variants.{Pass}
 use Rattle.event.specs.Answer.{answerNumber}
 use Rattle.chain_record.specs.declared.Chain.{Chain}
@@ -55,7 +55,7 @@ given n level c = record {
 
 -- the 17th fall's answer: "5 a fault rule applied", else "0 taken"
 abbrev pub fallAnswer : ℕ → Chain → ℕ
-fallAnswer n c = answerNumber (outcomeAnswer (carryOf (lookOf c .profile) (driveOf c .body) n .outcome))
+fallAnswer n c = answerNumber (outcomeAnswer (plain n c .outcome))
 
 module _ (w : Sending) (d : Lent) where
   -- the data level before

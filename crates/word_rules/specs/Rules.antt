@@ -1,5 +1,5 @@
 -- A word carried out, and the plain word rules.
-use Prim.Native.Nat.{ℕ}
+use Prim.Native.Nat.{ℕ, _-_, _^_}
 use mathlib.Core.Bool.{Bool, _||_, not}
 use lib.Dec.{eqb}
 use Rattle.counts.specs.Choice.{if_then_else_}
@@ -24,11 +24,15 @@ use Rattle.word_rules.specs.declared.Carried.{Carried}
 use Rattle.word_rules.specs.declared.Answered.{Answered}
 use Rattle.word_rules.specs.Responses.{configurationOf}
 
+-- "a word with its parity bit": seventeen bits
+abbrev pub largestWord : ℕ
+largestWord = 2 ^ 17 - 1
+
 abbrev pub carriedAs : Outcome → Told → Body → Carried
 carriedAs o t b = record { body = b; told = t; outcome = o }
 
-abbrev pub answered : Told → State → Answered
-answered t s = record { state = s; told = t }
+abbrev pub answered : Outcome → Told → State → Answered
+answered o t s = record { state = s; told = t; outcome = o }
 
 -- "A faulted word does nothing else and has no response."
 abbrev pub failing : ℕ → Body → Carried
@@ -55,12 +59,12 @@ carryOf p b n = doneOf p b (effectOf p b n)
 abbrev pub refusesB : State → Bool
 refusesB s = eqb (s .body .reading) 1 || eqb (s .body .writing) 1 || not (completeB s)
 
--- "they latch bit 6 and stop"
+-- "they latch bit 6 and stop": a fault rule
 abbrev pub refusedPlain : State → Answered
-refusedPlain s = answered Nothing (stateOf (latchBit 6 (s .body)) (s .transfer))
+refusedPlain s = answered Fault Nothing (stateOf (latchBit 6 (s .body)) (s .transfer))
 
 abbrev pub answering : State → Carried → Answered
-answering s c = answered (c .told) (stateOf (c .body) (s .transfer))
+answering s c = answered (c .outcome) (c .told) (stateOf (c .body) (s .transfer))
 
 -- "given a drive and a word with its parity bit at once"
 unfoldable pub plainOf : Profile → State → ℕ → Answered

@@ -8,12 +8,13 @@ use drive_record::State;
 use drive_record::faults;
 use drive_record::status;
 use pack_profile::Profile;
-use pack_profile::Times;
-use word_acts::Act;
 use word_table::Effect;
 use word_table::decide;
 ghost use mathlib.Core.Path.{_≡_};
-ghost use Rattle.word_rules.specs.Rules.{failing, saying, doing, doneOf, carryOf, refusesB, refusedPlain, answering, plainOf};
+ghost use Rattle.word_rules.specs.Rules.{saying, carryOf, refusesB, refusedPlain, answering, plainOf};
+
+// The largest word with its parity: seventeen bits.
+pub const LARGEST_WORD: u32 = 131_071;
 
 // The response: a word of seventeen bits, its parity last.
 pub enum Told {
@@ -28,19 +29,11 @@ pub struct Carried {
     pub outcome: Outcome,
 }
 
+// A word by the plain word rules: the drive that it leaves, the response, and whether a fault rule applied.
 pub struct Answered {
     pub state: State,
     pub told: Told,
-}
-
-fn fail(b: Body, bit: u16) -> Carried
-    ensures { λ r. ⌜ r ≡ failing bit b ⌝ }
-{
-    Carried {
-        body: faults::latch(b, bit),
-        told: Told::Nothing,
-        outcome: Outcome::Fault,
-    }
+    pub outcome: Outcome,
 }
 
 fn say(b: Body, word: u16) -> Carried
@@ -53,36 +46,28 @@ fn say(b: Body, word: u16) -> Carried
     }
 }
 
-fn act_on(t: Times, b: Body, act: Act) -> Carried
-    ensures { λ r. ⌜ r ≡ doing t act b ⌝ }
-{
-    Carried {
-        body: word_acts::acted(t, b, act),
-        told: Told::Nothing,
-        outcome: Outcome::Done,
-    }
-}
-
-fn done(p: Profile, b: Body, e: Effect) -> Carried
-    ensures { λ r. ⌜ r ≡ doneOf p b e ⌝ }
-{
-    match e {
-        Effect::Fails(bit) => fail(b, bit),
-        Effect::Status => say(b, status::status(p, b)),
-        Effect::Configuration(modifier) => say(b, responses::configuration(p, b.sector, modifier)),
-        Effect::Does(act) => act_on(p.times, b, act),
-    }
-}
-
 // A whole word, carried out.
 pub fn carry(p: Profile, b: Body, n: u32) -> Carried
     ensures { λ r. ⌜ r ≡ carryOf p b n ⌝ }
 {
-    done(p, b, decide::effect(p, b, n))
+    match decide::effect(p, b, n) {
+        Effect::Fails(bit) => Carried {
+            body: faults::latch(b, bit),
+            told: Told::Nothing,
+            outcome: Outcome::Fault,
+        },
+        Effect::Status => say(b, status::status(p, b)),
+        Effect::Configuration(modifier) => say(b, responses::configuration(p, b.sector, modifier)),
+        Effect::Does(act) => Carried {
+            body: word_acts::acted(p.times, b, act),
+            told: Told::Nothing,
+            outcome: Outcome::Done,
+        },
+    }
 }
 
 // A drive that reads or writes, or whose command complete is false.
-pub fn refuses(s: State) -> bool
+fn refuses(s: State) -> bool
     ensures { λ r. ⌜ r ≡ refusesB s ⌝ }
 {
     (s.body.reading == 1) | (s.body.writing == 1) | !status::complete(s)
@@ -96,6 +81,7 @@ fn refuse(s: State) -> Answered
     Answered {
         state: State { body, transfer },
         told: Told::Nothing,
+        outcome: Outcome::Fault,
     }
 }
 
@@ -104,10 +90,12 @@ fn answer(s: State, c: Carried) -> Answered
 {
     let body = c.body;
     let told = c.told;
+    let outcome = c.outcome;
     let transfer = s.transfer;
     Answered {
         state: State { body, transfer },
         told,
+        outcome,
     }
 }
 

@@ -1,7 +1,13 @@
--- `c_word::code` meets its contract: each return rewrites with the tests that led there.
+-- `c_word::code` meets its contract: each return rewrites with what is told.
 use borrow.Author.Needs.{needs}
 use Rattle.c_word.proofs.code.Statement.{statement}
 use Rattle.c_word.proofs.code.Tie as tie
+
+number-requires : tie.Need-number-requires
+number-requires c κs = search needs
+
+cast-number : tie.Need-cast-number
+cast-number c = search needs
 
 enum-told : tie.Need-enum-told
 enum-told c = search needs
@@ -25,12 +31,14 @@ returns : tie.Need-returns
 returns c = search needs
 
 returns-2 : tie.Need-returns-2
-returns-2 c = simp (c .before .told .given .1)
+returns-2 c = simp (c .before .told .given .1, c .before .before .before .number .ensures)
 
 pub code-spec : {M : Type 1} → statement M
 code-spec =
     tie.close
     (tie.spec
+    number-requires
+    cast-number
     enum-told
     enum-known-told
     add-result

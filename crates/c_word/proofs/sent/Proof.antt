@@ -1,4 +1,4 @@
--- `c_word::sent` meets its contract: each return rewrites with the tests that led there.
+-- `c_word::sent` meets its contract: what the plain word rules leave, tell and come to.
 use Rattle.c_word.specs.Words.{sentOf}
 use borrow.Author.Needs.{needs}
 use Rattle.c_word.proofs.sent.Statement.{statement}
@@ -10,26 +10,16 @@ plain-requires c κs = search needs
 state-in-requires : tie.Need-state-in-requires
 state-in-requires c κs = search needs
 
-outcome-requires : tie.Need-outcome-requires
-outcome-requires c κs = search needs
-
-fault-number-requires : tie.Need-fault-number-requires
-fault-number-requires c κs = search needs
+answer-of-requires : tie.Need-answer-of-requires
+answer-of-requires c κs = search needs
 
 code-requires : tie.Need-code-requires
 code-requires c κs = search needs
 
 returns : tie.Need-returns
 unfolding sentOf
-returns c = simp (c .before .before .before .before .before .plain .ensures, c .before .before .before .state-in .ensures, c .before .before .outcome .ensures, c .before .fault-number .ensures, c .code .ensures)
+returns c = simp (c .before .before .before .before .plain .ensures, c .before .before .state-in .ensures, c .before .answer-of .ensures, c .code .ensures)
 
 pub sent-spec : {M : Type 1} → statement M
 sent-spec =
-    tie.close
-    (tie.spec
-    plain-requires
-    state-in-requires
-    outcome-requires
-    fault-number-requires
-    code-requires
-    returns)
+    tie.close (tie.spec plain-requires state-in-requires answer-of-requires code-requires returns)
