@@ -423,14 +423,11 @@ fn word_at_once(dice: &mut Dice, pair: &Pair) -> bool {
     } else {
         match chain.in_slot_mut(slot as u8) {
             None => (24, None),
-            Some(d) => {
-                // no word rule asks for a latched bit, so a fault is seen on a drive that has none
-                let mut clear = *d;
-                clear.latched = 0;
-                twin::plain_word(&mut clear, word);
-                let response = twin::plain_word(d, word);
-                (if clear.latched != 0 { 5 } else { 0 }, response)
-            }
+            Some(d) => match twin::plain_outcome(d, word) {
+                twin::Outcome::Done => (0, None),
+                twin::Outcome::Response(response) => (0, Some(twin::with_parity(response))),
+                twin::Outcome::Faulted => (5, None),
+            },
         }
     };
     if ours == theirs && record == esdi::record_of(&chain) {

@@ -1368,14 +1368,18 @@ fn whole_sectors_word(d: &Drive) -> u16 {
 /// "The plain word rules are these, given a drive and a word with its parity
 /// bit at once; on a drive that reads or writes, or with command complete
 /// false, they latch bit 6 and stop." The word stands in bits 16..1, its
-/// parity bit in bit 0; the response likewise. As we read it: they look at no
-/// line.
-pub fn plain_word(d: &mut Drive, word17: u32) -> Option<u32> {
+/// parity bit in bit 0. As we read it: they look at no line.
+pub fn plain_outcome(d: &mut Drive, word17: u32) -> Outcome {
     if d.reading || d.writing || !command_complete(d) {
         latch(d, INTERFACE_FAULT);
-        return None;
+        return Outcome::Faulted;
     }
-    match carry_out(d, word17) {
+    carry_out(d, word17)
+}
+
+/// The response by the plain word rules, its parity bit in bit 0.
+pub fn plain_word(d: &mut Drive, word17: u32) -> Option<u32> {
+    match plain_outcome(d, word17) {
         Outcome::Response(word) => Some(with_parity(word)),
         Outcome::Done | Outcome::Faulted => None,
     }

@@ -8,6 +8,8 @@ pub struct Answered {
     pub chain: Chain,
     // seventeen bits, 0 where there is no response
     pub response: u32,
+    // an answer's number
+    pub answer: u8,
 }
 
 fn bits_of(told: Told) -> u32 {
@@ -41,8 +43,10 @@ pub fn plain(c: Chain, word: u32) -> Answered {
     let s = slots::state_in(states, slot);
     let a = word_rules::plain(p.profile, s, word);
     let told = a.told;
+    let outcome = a.outcome;
     Answered {
         chain: with_selected(c, a.state),
         response: bits_of(told),
+        answer: event::numbers::number(chain_decision::answer_of(outcome)),
     }
 }

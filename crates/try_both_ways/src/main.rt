@@ -159,11 +159,11 @@ fn counted(t: Totals, before: State, bit: u16, response: u32, good: bool) -> Tot
     }
 }
 
-// The same record, the same response, and 5 on the cable exactly where a bit is latched.
-fn agree(slow: Sent, quick: Answered, bit: u16) -> bool {
+// The same record, the same response and the same answer.
+fn agree(slow: Sent, quick: Answered) -> bool {
     same::same(slow.bench.chain, quick.chain)
         & (slow.bits == quick.response)
-        & ((slow.answer == 5) == (bit != 0))
+        & (slow.answer == quick.answer)
 }
 
 fn both(r: Run, file: &mut [u8; ROOM], word: u32) -> Run {
@@ -172,7 +172,7 @@ fn both(r: Run, file: &mut [u8; ROOM], word: u32) -> Run {
     let bit = latches(r.bench.chain, word);
     let slow = ways::by_bits(r.bench, file, word, seed);
     let quick = ways::at_once(r.bench, file, word, seed);
-    let good = agree(slow, quick, bit);
+    let good = agree(slow, quick);
     let totals = counted(r.totals, before, bit, slow.bits, good);
     let bench = slow.bench;
     Run {
