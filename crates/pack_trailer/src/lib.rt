@@ -10,7 +10,7 @@ ghost use mathlib.Core.Path.{_≡_};
 ghost use Prim.Native.Nat.{_+_, _*_};
 ghost use Rattle.counts.specs.Bytes.{one as byteOf, two as twoOf, four as fourOf};
 ghost use Rattle.pack_trailer.specs.Fields.{ShapeIs, TimesIs, profileOf, zerosB};
-ghost use Rattle.pack_trailer.specs.TrailerBytes.{trailerOf};
+ghost use Rattle.pack_trailer.specs.TrailerBytes.{firstBytes, timeBytes, lastBytes, trailerOf};
 
 // The length of a trailer.
 pub const LENGTH: usize = 44;
@@ -129,9 +129,9 @@ pub fn profile_of(t: &[u8]) -> Profile
     }
 }
 
-// The 44 bytes of a trailer, high byte first.
-pub fn trailer(p: Profile, distance: u32) -> [u8; LENGTH]
-    ensures { λ r. ⌜ r ≡ trailerOf p distance ⌝ }
+// Places 0 to 15, high byte first.
+fn first_bytes(p: Profile) -> [u8; 16]
+    ensures { λ r. ⌜ r ≡ firstBytes p ⌝ }
 {
     [
         p.slot,
@@ -150,28 +150,44 @@ pub fn trailer(p: Profile, distance: u32) -> [u8; LENGTH]
         p.sync,
         p.protected,
         0,
-        (p.times.settle.0 / 16_777_216 % 256) as u8,
-        (p.times.settle.0 / 65_536 % 256) as u8,
-        (p.times.settle.0 / 256 % 256) as u8,
-        (p.times.settle.0 % 256) as u8,
-        (p.times.step.0 / 256 % 256) as u8,
-        (p.times.step.0 % 256) as u8,
-        (p.times.switch.0 / 256 % 256) as u8,
-        (p.times.switch.0 % 256) as u8,
-        (p.times.recalibrate.0 / 16_777_216 % 256) as u8,
-        (p.times.recalibrate.0 / 65_536 % 256) as u8,
-        (p.times.recalibrate.0 / 256 % 256) as u8,
-        (p.times.recalibrate.0 % 256) as u8,
-        (p.times.start.0 / 16_777_216 % 256) as u8,
-        (p.times.start.0 / 65_536 % 256) as u8,
-        (p.times.start.0 / 256 % 256) as u8,
-        (p.times.start.0 % 256) as u8,
-        (p.times.diagnostic.0 / 16_777_216 % 256) as u8,
-        (p.times.diagnostic.0 / 65_536 % 256) as u8,
-        (p.times.diagnostic.0 / 256 % 256) as u8,
-        (p.times.diagnostic.0 % 256) as u8,
-        (p.times.offset.0 / 256 % 256) as u8,
-        (p.times.offset.0 % 256) as u8,
+    ]
+}
+
+// Places 16 to 37: the times.
+fn time_bytes(t: Times) -> [u8; 22]
+    ensures { λ r. ⌜ r ≡ timeBytes t ⌝ }
+{
+    [
+        (t.settle.0 / 16_777_216 % 256) as u8,
+        (t.settle.0 / 65_536 % 256) as u8,
+        (t.settle.0 / 256 % 256) as u8,
+        (t.settle.0 % 256) as u8,
+        (t.step.0 / 256 % 256) as u8,
+        (t.step.0 % 256) as u8,
+        (t.switch.0 / 256 % 256) as u8,
+        (t.switch.0 % 256) as u8,
+        (t.recalibrate.0 / 16_777_216 % 256) as u8,
+        (t.recalibrate.0 / 65_536 % 256) as u8,
+        (t.recalibrate.0 / 256 % 256) as u8,
+        (t.recalibrate.0 % 256) as u8,
+        (t.start.0 / 16_777_216 % 256) as u8,
+        (t.start.0 / 65_536 % 256) as u8,
+        (t.start.0 / 256 % 256) as u8,
+        (t.start.0 % 256) as u8,
+        (t.diagnostic.0 / 16_777_216 % 256) as u8,
+        (t.diagnostic.0 / 65_536 % 256) as u8,
+        (t.diagnostic.0 / 256 % 256) as u8,
+        (t.diagnostic.0 % 256) as u8,
+        (t.offset.0 / 256 % 256) as u8,
+        (t.offset.0 % 256) as u8,
+    ]
+}
+
+// Places 38 to 43.
+fn last_bytes(distance: u32) -> [u8; 6]
+    ensures { λ r. ⌜ r ≡ lastBytes distance ⌝ }
+{
+    [
         0,
         FORM,
         (distance / 16_777_216 % 256) as u8,
@@ -179,4 +195,18 @@ pub fn trailer(p: Profile, distance: u32) -> [u8; LENGTH]
         (distance / 256 % 256) as u8,
         (distance % 256) as u8,
     ]
+}
+
+// The 44 bytes of a trailer.
+pub fn trailer(p: Profile, distance: u32) -> [u8; LENGTH]
+    ensures { λ r. ⌜ r ≡ trailerOf p distance ⌝ }
+{
+    let first = first_bytes(p);
+    let times = time_bytes(p.times);
+    let last = last_bytes(distance);
+    let mut t = [0u8; LENGTH];
+    bytes::copy(&first, &mut t);
+    bytes::copy(&times, &mut t[16..]);
+    bytes::copy(&last, &mut t[38..]);
+    t
 }
