@@ -183,7 +183,7 @@ fn time_bytes(t: Times) -> [u8; 22]
     ]
 }
 
-// Places 38 to 43.
+// Places 38 to 43: the form, and the distance to the pack's start.
 fn last_bytes(distance: u32) -> [u8; 6]
     ensures { λ r. ⌜ r ≡ lastBytes distance ⌝ }
 {

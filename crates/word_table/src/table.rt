@@ -13,7 +13,7 @@ pub struct Row {
 }
 
 impl Row {
-    // The option needed.
+    // The option needed, or none.
     pub const FREE: u8 = 0;
 
     pub const MOTOR: u8 = 1;
