@@ -45,7 +45,7 @@ dataEvent d l level = heardOf (with-command level l) (d .selected)
 
 -- kind 5
 abbrev pub requestRule : Seen → Lines → ℕ → Ruled
-requestRule d l level = if eqb level 1 then requestRises (d .profile) l (d .state) else requestFalls (d .profile) (d .state)
+requestRule d l level = if eqb level 1 then requestRises l (d .state) else requestFalls (d .profile) (d .state)
 
 abbrev pub requestEvent : Seen → Lines → ℕ → Decision
 requestEvent d l level = signalOf d l (with-request level l) (eqb (l .request) level) (requestRule d l level)

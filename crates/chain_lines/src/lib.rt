@@ -87,7 +87,7 @@ fn request_rule(d: Seen, l: Lines, level: u8) -> Ruled
     let p = d.profile;
     let s = d.state;
     if level == 1 {
-        return request::rises(p, s, l);
+        return request::rises(s, l);
     }
     request::falls(p, s)
 }

@@ -4,7 +4,6 @@ use chain_decision::Decision;
 use chain_decision::Deed;
 use chain_record::Seen;
 use counts::Micros;
-use drive_rules::time;
 use event::Answer;
 use lines::Lines;
 ghost use mathlib.Core.Path.{_≡_};
@@ -14,14 +13,12 @@ ghost use Rattle.chain_others.specs.Passing.{passEvent};
 pub fn pass(d: Seen, l: Lines, us: Micros) -> Decision
     ensures { λ r. ⌜ r ≡ passEvent d l us ⌝ }
 {
-    let s = d.state;
-    let r = time::pass(s, us);
-    let outcome = r.outcome;
-    if d.selected {
+    let t = d.state.transfer;
+    if d.selected & handshake::late(t, us) {
         return Decision {
             lines: l,
             change: Change::Pass(us),
-            deed: Deed::Say(chain_decision::answer_of(outcome)),
+            deed: Deed::Say(Answer::Fault),
         };
     }
     Decision {

@@ -1,6 +1,6 @@
 -- "Refusals 19 to 25 change nothing": a refused event leaves the record and the file as they were.
 use mathlib.Core.Path.{_≡_, refl}
-use mathlib.Core.Bool.{Bool, true, false, not}
+use mathlib.Core.Bool.{Bool, true, false, _&&_, not}
 use mathlib.Core.List.{List}
 use Prim.Native.Nat.{ℕ, _≤_}
 use native.Mathlib.Omega.{arith}
@@ -8,12 +8,12 @@ use lib.Dec.{eqb}
 use lib.ListN.{length}
 use Rattle.counts.specs.Choice.{if_then_else_}
 use Rattle.counts.proofs.Choice.{by-test}
+use Rattle.handshake.specs.Edges.{lateB}
 use Rattle.drive_record.specs.declared.Outcome.{Outcome}
 use Rattle.drive_record.specs.declared.Outcome.the-variants as outcome
-use Rattle.drive_rules.specs.Time as time
 use Rattle.drive_rules.specs.DriveLeft.{leftOf}
 use Rattle.event.specs.declared.Answer.{Answer}
-use Rattle.event.specs.declared.Answer.the-variants.{Taken, Unselected}
+use Rattle.event.specs.declared.Answer.the-variants.{Taken, Unselected, Fault}
 use Rattle.event.specs.declared.Event.{Event}
 use Rattle.event.specs.declared.Decoded.{Decoded}
 use Rattle.event.specs.declared.Decoded.the-variants.{Is, Unknown, Range}
@@ -56,9 +56,9 @@ module _ (c : Chain) (file : List ℕ) where
   either outcome.Inhibited a k h = absurd (k h)
   either outcome.Fault a k h = absurd (omega arith)
 
-  timed : {X : Type 0} (b : Bool) (o : Outcome) → 20 ≤ answerNumber (if b then outcomeAnswer o else Taken) → X
-  timed true o h = ruled o h
-  timed false o h = absurd (omega arith)
+  timed : {X : Type 0} (late : Bool) → 20 ≤ answerNumber (if late then Fault else Taken) → X
+  timed true h = absurd (omega arith)
+  timed false h = absurd (omega arith)
 
   abbrev d : Seen
   d = lookOf c
@@ -73,7 +73,7 @@ module _ (c : Chain) (file : List ℕ) where
     enters = λ slot off f m. ruled (enteredOf c slot .outcome);
     leaves = λ slot on n m. either (leftOf (d .state) .outcome) Unselected alone;
     swaps = λ slot on f m. either (leftOf (d .state) .outcome) (outcomeAnswer (enteredOf c slot .outcome)) (low (enteredOf c slot .outcome));
-    passes = λ us. timed (d .selected) (time.passDrive us (d .state) .outcome);
+    passes = λ us. timed (d .selected && lateB us (d .state .transfer));
     past = λ position byte on h. (refl, refl);
     writes = λ position byte on t w h. absurd (omega arith);
     reads = λ position byte on t r w h. absurd (omega arith);

@@ -1,12 +1,16 @@
--- Latching, and the conditions of kind 8.
+-- Latching, the conditions of kind 8, and a transfer dropped.
 use Prim.Native.Nat.{ℕ, _^_}
 use lib.Bits.{bitOr}
 use lib.Dec.{eqb}
 use Rattle.counts.specs.Choice.{if_then_else_}
 use Rattle.drive_record.specs.declared.Body.{Body}
+use Rattle.handshake.specs.declared.Held.{Held}
+use Rattle.handshake.specs.declared.Held.the-variants.{Keep, Drop}
 use Rattle.handshake.specs.Transfer.{noTransfer}
 use Rattle.drive_record.specs.declared.State.{State}
-use Rattle.drive_record.specs.State.{with-arm, with-latched, with-reading, with-writing, stateOf}
+use Rattle.drive_record.specs.declared.Outcome.the-variants.{Done, Fault}
+use Rattle.drive_record.specs.declared.Ruled.{Ruled}
+use Rattle.drive_record.specs.State.{with-arm, with-latched, with-reading, with-writing, stateOf, ruled}
 
 -- a bit of the status word, by its value; "Latching any bit ends writing."
 unfoldable pub latchOf : ℕ → Body → Body
@@ -29,3 +33,8 @@ conditionOf which b =
 -- "bit 6, dropped. Dropping lowers acknowledge."
 abbrev pub droppedOf : Body → State
 droppedOf b = stateOf (latchBit 6 b) noTransfer
+
+-- a dropped transfer is "a fault rule applied"
+abbrev pub heldOf : Body → Held → Ruled
+heldOf b (Keep t) = ruled Done (stateOf b t)
+heldOf b Drop = ruled Fault (droppedOf b)

@@ -1,10 +1,13 @@
-// Latched bits: the one place where a bit is latched, and the conditions that come from outside.
+// Latched bits: the one place where a bit is latched, the conditions that come from outside, and a transfer dropped.
 use crate::Body;
 use crate::Latched;
+use crate::Outcome;
+use crate::Ruled;
 use crate::State;
+use handshake::Held;
 use handshake::Transfer;
 ghost use mathlib.Core.Path.{_≡_};
-ghost use Rattle.drive_record.specs.Faults.{latchOf, conditionOf, droppedOf};
+ghost use Rattle.drive_record.specs.Faults.{latchOf, conditionOf, droppedOf, heldOf};
 
 // A bit of the status word, by its value. Latching any bit ends writing.
 pub fn latch(b: Body, bit: u16) -> Body
@@ -40,4 +43,23 @@ pub fn dropped(b: Body) -> State
     let body = latch(b, Latched::INTERFACE);
     let transfer = Transfer::none();
     State { body, transfer }
+}
+
+// What a rise of request or a wait does to the drive: its transfer goes on, or is dropped for a fault.
+pub fn held(b: Body, h: Held) -> Ruled
+    ensures { λ r. ⌜ r ≡ heldOf b h ⌝ }
+{
+    match h {
+        Held::Keep(transfer) => {
+            let body = b;
+            Ruled {
+                state: State { body, transfer },
+                outcome: Outcome::Done,
+            }
+        }
+        Held::Drop => Ruled {
+            state: dropped(b),
+            outcome: Outcome::Fault,
+        },
+    }
 }

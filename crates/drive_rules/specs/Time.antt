@@ -4,15 +4,12 @@ use mathlib.Core.Bool.{_&&_}
 use lib.Dec.{ltb, leb, eqb}
 use Rattle.counts.specs.declared.Micros.{Micros}
 use Rattle.counts.specs.Choice.{if_then_else_}
-use Rattle.handshake.specs.declared.Edge.{Edge}
-use Rattle.handshake.specs.declared.Edge.the-variants.{Keep, Drop, Carry}
 use Rattle.handshake.specs.Edges.{waitOf}
 use Rattle.drive_record.specs.declared.Body.{Body}
 use Rattle.drive_record.specs.declared.State.{State}
-use Rattle.drive_record.specs.declared.Outcome.the-variants.{Done, Fault}
 use Rattle.drive_record.specs.declared.Ruled.{Ruled}
-use Rattle.drive_record.specs.State.{starting, up, with-timers, with-motor, stateOf, ruled}
-use Rattle.drive_record.specs.Faults.{droppedOf}
+use Rattle.drive_record.specs.State.{starting, up, with-timers, with-motor}
+use Rattle.drive_record.specs.Faults.{heldOf}
 
 abbrev pub lessOf : Micros → Micros → Micros
 lessOf a us = record { 0 = a .0 - us .0 }
@@ -25,12 +22,6 @@ unfoldable pub passBody : Micros → Body → Body
 passBody us b =
     with-motor (motorAfter (b .motor) (b .timers .busy) us)
     (with-timers (record { busy = lessOf (b .timers .busy) us; head = lessOf (b .timers .head) us }) b)
-
--- a transfer that time drops is a fault
-abbrev pub heldOf : Body → Edge → Ruled
-heldOf b (Keep t) = ruled Done (stateOf b t)
-heldOf b Drop = ruled Fault (droppedOf b)
-heldOf b (Carry n) = ruled Fault (droppedOf b)
 
 unfoldable pub passDrive : Micros → State → Ruled
 passDrive us s = heldOf (passBody us (s .body)) (waitOf us (s .transfer))

@@ -1,15 +1,12 @@
 // Microseconds passing on one drive.
 use counts::Micros;
 use drive_record::Body;
-use drive_record::Outcome;
 use drive_record::Ruled;
 use drive_record::State;
 use drive_record::Timers;
 use drive_record::faults;
-use handshake::Edge;
 ghost use mathlib.Core.Path.{_≡_};
 ghost use Rattle.drive_rules.specs.Time.{lessOf, motorAfter, passBody, passDrive};
-ghost use Rattle.drive_record.specs.Faults.{droppedOf};
 
 fn less(a: Micros, us: Micros) -> Micros
     ensures { λ r. ⌜ r ≡ lessOf a us ⌝ }
@@ -59,19 +56,5 @@ pub fn pass(s: State, us: Micros) -> Ruled
     let b = s.body;
     let t = s.transfer;
     let body = pass_body(b, us);
-    let edge = handshake::wait(t, us);
-    match edge {
-        Edge::Keep(transfer) => Ruled {
-            state: State { body, transfer },
-            outcome: Outcome::Done,
-        },
-        Edge::Drop => Ruled {
-            state: faults::dropped(body),
-            outcome: Outcome::Fault,
-        },
-        Edge::Carry(_) => Ruled {
-            state: faults::dropped(body),
-            outcome: Outcome::Fault,
-        },
-    }
+    faults::held(body, handshake::wait(t, us))
 }

@@ -1,12 +1,14 @@
 -- "Handshake (000, 5.1.5 to 5.2.4)": what a request edge, and time, do to a transfer.
 use Prim.Native.Nat.{ℕ, _+_, _*_, _%_}
-use mathlib.Core.Bool.{Bool, _||_, not}
+use mathlib.Core.Bool.{Bool, _&&_, _||_, not}
 use lib.Dec.{ltb, eqb}
 use Rattle.counts.specs.declared.Micros.{Micros}
 use Rattle.counts.specs.Choice.{if_then_else_}
 use Rattle.handshake.specs.declared.Transfer.{Transfer}
-use Rattle.handshake.specs.declared.Edge.{Edge}
-use Rattle.handshake.specs.declared.Edge.the-variants.{Keep, Drop, Carry}
+use Rattle.handshake.specs.declared.Held.{Held}
+use Rattle.handshake.specs.declared.Held.the-variants.{Keep, Drop}
+use Rattle.handshake.specs.declared.Fallen.{Fallen}
+use Rattle.handshake.specs.declared.Fallen.the-variants as fallen
 use Rattle.handshake.specs.Transfer.{taking, responding, wordBits, patience, noTransfer, openB}
 
 -- one bit more, seventeen at most
@@ -40,7 +42,7 @@ putOutOf t = record {
 }
 
 -- "On a rise of request": gated, either gate on; calm, no timer of the unit runs
-unfoldable pub riseOf : Bool → Bool → ℕ → Transfer → Edge
+unfoldable pub riseOf : Bool → Bool → ℕ → Transfer → Held
 riseOf gated calm level t =
     if gated then Drop  -- "either gate on: bit 6, any open transfer dropped, no acknowledge"
     else if not (openB t || calm) then Drop  -- "Else no transfer open and command complete false: bit 6, no acknowledge"
@@ -51,12 +53,12 @@ abbrev pub loweredOf : Transfer → Transfer
 loweredOf t = record { waiting = record { 0 = 0 }; bits = t .bits; response = t .response; way = t .way; count = t .count; acknowledge = 0 }
 
 -- "On a fall with acknowledge up"
-unfoldable pub fallOf : Transfer → Edge
+unfoldable pub fallOf : Transfer → Fallen
 fallOf t =
-    if not (eqb (t .acknowledge) 1) then Keep t
-    else if ltb (t .count) wordBits then Keep (loweredOf t)  -- "it falls"
-    else if eqb (t .way) taking then Carry (t .bits)  -- "after the 17th bit in, the word is carried out"
-    else Keep noTransfer  -- "after the 17th bit out the transfer ends"
+    if not (eqb (t .acknowledge) 1) then fallen.Keep t
+    else if ltb (t .count) wordBits then fallen.Keep (loweredOf t)  -- "it falls"
+    else if eqb (t .way) taking then fallen.Carry (t .bits)  -- "after the 17th bit in, the word is carried out"
+    else fallen.Keep noTransfer  -- "after the 17th bit out the transfer ends"
 
 abbrev pub agedBy : Micros → Transfer → Transfer
 agedBy us t = record {
@@ -69,8 +71,11 @@ agedBy us t = record {
 }
 
 -- "More than 10,000 µs since its last request edge (house)"
-unfoldable pub waitOf : Micros → Transfer → Edge
+unfoldable pub lateB : Micros → Transfer → Bool
+lateB us t = openB t && ltb patience (t .waiting .0 + us .0)
+
+unfoldable pub waitOf : Micros → Transfer → Held
 waitOf us t =
-    if eqb (t .way) 0 then Keep t
-    else if ltb patience (t .waiting .0 + us .0) then Drop  -- "bit 6, dropped"
-    else Keep (agedBy us t)
+    if lateB us t then Drop  -- "bit 6, dropped"
+    else if openB t then Keep (agedBy us t)
+    else Keep t

@@ -2,7 +2,7 @@
 use counts::Micros;
 ghost use mathlib.Core.Path.{_≡_};
 ghost use Rattle.handshake.specs.Transfer.{noTransfer, respondingWith, openB, bitOut, statusLine};
-ghost use Rattle.handshake.specs.Edges.{takenBit, nextBit, takenOf, putOutOf, riseOf, loweredOf, fallOf, waitOf};
+ghost use Rattle.handshake.specs.Edges.{takenBit, nextBit, takenOf, putOutOf, riseOf, loweredOf, fallOf, lateB, waitOf};
 ghost use Rattle.handshake.specs.SoundTransfer.{idleB, noneB, takingB, respondingB, leftB};
 
 // way: 0 none, 1 taking bits, 2 responding. count: the bits taken, or put out. acknowledge: the line's level.
@@ -16,10 +16,15 @@ pub struct Transfer {
     pub acknowledge: u8,
 }
 
-// What an edge or a wait does: the transfer goes on, is dropped with bit 6, or has its word whole, to be carried out.
-pub enum Edge {
+// What a rise or a wait does: the transfer goes on, or is dropped with bit 6.
+pub enum Held {
     Keep(Transfer),
     Drop,
+}
+
+// What a fall does: the transfer goes on, or its word is whole, to be carried out.
+pub enum Fallen {
+    Keep(Transfer),
     Carry(u32),
 }
 
@@ -112,22 +117,22 @@ fn put_out(t: Transfer) -> Transfer
 }
 
 // Request rises. gated: either gate is on. calm: the unit's timers are 0. level: the command data line's.
-pub fn rise(t: Transfer, gated: bool, calm: bool, level: u8) -> Edge
+pub fn rise(t: Transfer, gated: bool, calm: bool, level: u8) -> Held
     ensures { λ r. ⌜ r ≡ riseOf gated calm level t ⌝ }
 {
     if gated {
-        return Edge::Drop;
+        return Held::Drop;
     }
     if t.way == 0 {
         if !calm {
-            return Edge::Drop;
+            return Held::Drop;
         }
-        return Edge::Keep(taken(t, level));
+        return Held::Keep(taken(t, level));
     }
     if t.way == Transfer::RESPONDING {
-        return Edge::Keep(put_out(t));
+        return Held::Keep(put_out(t));
     }
-    Edge::Keep(taken(t, level))
+    Held::Keep(taken(t, level))
 }
 
 fn lowered(t: Transfer) -> Transfer
@@ -141,36 +146,42 @@ fn lowered(t: Transfer) -> Transfer
 }
 
 // Request falls.
-pub fn fall(t: Transfer) -> Edge
+pub fn fall(t: Transfer) -> Fallen
     ensures { λ r. ⌜ r ≡ fallOf t ⌝ }
 {
     if t.acknowledge != 1 {
-        return Edge::Keep(t);
+        return Fallen::Keep(t);
     }
     if t.count < Transfer::BITS {
-        return Edge::Keep(lowered(t));
+        return Fallen::Keep(lowered(t));
     }
     if t.way == Transfer::TAKING {
-        return Edge::Carry(t.bits);
+        return Fallen::Carry(t.bits);
     }
-    Edge::Keep(Transfer::none())
+    Fallen::Keep(Transfer::none())
+}
+
+// Whether a transfer is open that these microseconds drop.
+pub fn late(t: Transfer, us: Micros) -> bool
+    ensures { λ r. ⌜ r ≡ lateB us t ⌝ }
+{
+    is_open(t) & (t.waiting.0 as u64 + us.0 as u64 > Transfer::PATIENCE as u64)
 }
 
 // Microseconds pass.
-pub fn wait(t: Transfer, us: Micros) -> Edge
+pub fn wait(t: Transfer, us: Micros) -> Held
     ensures { λ r. ⌜ r ≡ waitOf us t ⌝ }
 {
-    if t.way == 0 {
-        return Edge::Keep(t);
+    if late(t, us) {
+        return Held::Drop;
     }
-    let w = t.waiting.0 as u64 + us.0 as u64;
-    if w > Transfer::PATIENCE as u64 {
-        return Edge::Drop;
+    if !is_open(t) {
+        return Held::Keep(t);
     }
     let mut e = t;
-    let n = Micros(w as u32);
+    let n = Micros(t.waiting.0 + us.0);
     e.waiting = n;
-    Edge::Keep(e)
+    Held::Keep(e)
 }
 
 // The bit that is out when count bits of the response have been put out, the highest first.

@@ -1,6 +1,6 @@
 -- A chain that is sound over its file is never answered 22 or 23.
 use mathlib.Core.Path.{_≡_, sym}
-use mathlib.Core.Bool.{Bool, true, false}
+use mathlib.Core.Bool.{Bool, true, false, _&&_}
 use mathlib.Core.List.{List}
 use Prim.Native.Nat.{ℕ, _≤_}
 use native.Mathlib.Omega.{arith}
@@ -10,10 +10,10 @@ use Rattle.counts.specs.Bytes.{Bytes}
 use Rattle.counts.specs.Choice.{if_then_else_}
 use Rattle.pack_read.specs.declared.read.Answer.the-variants.{Whole}
 use Rattle.pack_read.specs.Read.{readAll}
+use Rattle.handshake.specs.Edges.{lateB}
 use Rattle.drive_record.specs.declared.Outcome.{Outcome}
 use Rattle.drive_record.specs.declared.Outcome.the-variants.{Done, Inhibited, Fault}
 use Rattle.drive_rules.specs.DriveLeft.{leftOf}
-use Rattle.drive_rules.specs.Time as time
 use Rattle.event.specs.declared.Answer.{Answer}
 use Rattle.event.specs.declared.Answer.the-variants as answer
 use Rattle.event.specs.Answer.{answerNumber}
@@ -55,9 +55,9 @@ either Done a h = h
 either Inhibited a h = h
 either Fault a h = small answer.Fault (omega arith)
 
-timed : (t : Bool) (o : Outcome) → Answers (if t then outcomeAnswer o else answer.Taken)
-timed true o = ruled o
-timed false o = small answer.Taken (omega arith)
+timed : (late : Bool) → Answers (if late then answer.Fault else answer.Taken)
+timed true = small answer.Fault (omega arith)
+timed false = small answer.Taken (omega arith)
 
 module _ (c : Chain) (file : List ℕ) where
   abbrev d : Seen
@@ -76,7 +76,7 @@ module _ (c : Chain) (file : List ℕ) where
     enters = λ slot off f m. ruled (enteredOf c slot .outcome);
     leaves = λ slot on n m. either (leftOf (d .state) .outcome) answer.Unselected (small answer.Unselected (omega arith));
     swaps = λ slot on f m. either (leftOf (d .state) .outcome) (outcomeAnswer (enteredOf c slot .outcome)) (ruled (enteredOf c slot .outcome));
-    passes = λ us. timed (d .selected) (time.passDrive us (d .state) .outcome);
+    passes = λ us. timed (d .selected && lateB us (d .state .transfer));
     past = λ position byte on. ((λ z. omega arith), (λ z. omega arith));
     writes = λ position byte on t w. small answer.Written (omega arith);
     reads = λ position byte on t r w. ((λ z. omega arith), (λ z. omega arith));

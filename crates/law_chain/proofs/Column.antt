@@ -1,6 +1,6 @@
 -- What each answer leaves of the chain and of the file: the answer table's column "leaves".
 use mathlib.Core.Path.{_≡_, refl, ap}
-use mathlib.Core.Bool.{Bool, true, false, not}
+use mathlib.Core.Bool.{Bool, true, false, _&&_, not}
 use mathlib.Core.List.{List}
 use mathlib.Core.Logic.{_⊎_, inl, inr}
 use Prim.Native.Nat.{ℕ, _-_, _<_}
@@ -13,6 +13,7 @@ use Rattle.counts.specs.declared.Position.{Position}
 use Rattle.counts.specs.Choice.{if_then_else_}
 use Rattle.counts.proofs.Choice.{by-test, either-way, never}
 use Rattle.drive_record.specs.declared.State.{State}
+use Rattle.handshake.specs.Edges.{lateB}
 use Rattle.drive_record.specs.declared.Outcome.{Outcome}
 use Rattle.drive_record.specs.declared.Outcome.the-variants.{Done, Inhibited, Fault}
 use Rattle.drive_record.specs.State.{blankState}
@@ -42,7 +43,7 @@ use Rattle.chain_judge.specs.Judge.{allowedOf, judgedOf}
 use Rattle.chain_step.specs.Step.{stepOf, stepFile}
 use Rattle.law_chain.specs.Column.{Leaves}
 use Rattle.chain_decide.proofs.Walk.{Cases, walk}
-use Rattle.law_chain.proofs.Outcomes.{Unlatched, write-unlatched, read-unlatched, met-acts, left-acts, pass-acts, rises-acts, falls-acts, left-done}
+use Rattle.law_chain.proofs.Outcomes.{Unlatched, write-unlatched, read-unlatched, met-acts, left-acts, rises-acts, falls-acts, left-done}
 
 -- putting a slot's own state changes nothing
 put-back : (states : List State) (slot : ℕ) → putOf states slot (slotState states slot) ≡ states
@@ -58,7 +59,7 @@ pub rule-unlatched : (d : Seen) (l : Lines) (e : Event) → Unlatched (d .state)
 rule-unlatched d l (Heads h) = λ i. absurd (met-acts _ _ _ i)
 rule-unlatched d l (WriteGate v) = either-way (Unlatched (d .state)) (eqb v 1) (write-unlatched _ _ _) (λ i. absurd (never (cc)))
 rule-unlatched d l (ReadGate v) = either-way (Unlatched (d .state)) (eqb v 1) (read-unlatched _ _ _) (λ i. absurd (never (cc)))
-rule-unlatched d l (Request v) = either-way (Unlatched (d .state)) (eqb v 1) (λ i. absurd (rises-acts _ _ _ i)) (λ i. absurd (falls-acts _ _ i))
+rule-unlatched d l (Request v) = either-way (Unlatched (d .state)) (eqb v 1) (λ i. absurd (rises-acts _ _ i)) (λ i. absurd (falls-acts _ _ i))
 rule-unlatched d l (Data v) = λ i. refl
 rule-unlatched d l (Select slot) = λ i. refl
 rule-unlatched d l (Pass us) = λ i. refl
@@ -104,9 +105,9 @@ module _ (c : Chain) (file : List ℕ) (h : chainSoundB c ≡ true) (n : length 
   swapped e Fault p chain i j = refl
   swapped e Inhibited p chain i j = absurd (i refl)
 
-  timed : (e : Event) (t : Bool) (o : Outcome) (chain : Chain) → (o ≡ Inhibited → ⊥) → Leaves e c file (if t then outcomeAnswer o else answer.Taken) chain file
-  timed e true o chain i = acting e o chain i
-  timed e false o chain i = refl
+  timed : (e : Event) (late : Bool) (chain : Chain) → Leaves e c file (if late then answer.Fault else answer.Taken) chain file
+  timed e true chain = refl
+  timed e false chain = refl
 
   inside : (position : Position) → d .selected ≡ true → position .0 < d .profile .shape .track .0
       → (d .state .body .writing ≡ 1) ⊎ (d .state .body .reading ≡ 1) → cellPlace d position < length file
@@ -122,7 +123,7 @@ module _ (c : Chain) (file : List ℕ) (h : chainSoundB c ≡ true) (n : length 
     enters = λ slot off f m. acting (Select slot) _ _ (met-acts _ _ _);
     leaves = λ slot on f m. left-alone slot (leftOf (d .state) .outcome) (leftOf (d .state) .state) (left-done (d .state)) (left-acts (d .state)) on;
     swaps = λ slot on f m. swapped (Select slot) _ _ _ (left-acts (d .state)) (met-acts _ _ _);
-    passes = λ us. timed (Pass us) (d .selected) _ _ (pass-acts us (d .state));
+    passes = λ us. timed (Pass us) (d .selected && lateB us (d .state .transfer)) _;
     past = λ position byte on. (refl, refl);
     writes = λ position byte on t w.
         (record { position = position; byte = byte; cell = refl; inside = inside position on t (inl w); holds = refl }, refl);

@@ -13,8 +13,8 @@ use Rattle.counts.proofs.Choice.{by-test}
 use Rattle.counts.proofs.Tests.{both}
 use Rattle.pack_read.specs.declared.Pack.{Pack}
 use Rattle.pack_read.specs.Packs.{noPack}
-use Rattle.handshake.specs.SoundTransfer.{noneB}
-use Rattle.handshake.specs.Edges.{waitOf}
+use Rattle.handshake.specs.SoundTransfer.{idleB, noneB}
+use Rattle.handshake.specs.Edges.{lateB}
 use Rattle.drive_record.specs.declared.State.{State}
 use Rattle.drive_record.specs.declared.Outcome.{Outcome}
 use Rattle.drive_record.specs.declared.Outcome.the-variants.{Done, Inhibited, Fault}
@@ -30,6 +30,7 @@ use Rattle.event.specs.declared.Decoded.the-variants.{Is}
 use Rattle.event.specs.Decode.{decodeOf}
 use Rattle.lines.specs.declared.Lines.{Lines}
 use Rattle.law_drive.proofs.SoundDrives.{unselected}
+use Rattle.law_drive.proofs.DriveTime.{pass-outcome}
 use Rattle.chain_record.specs.declared.Chain.{Chain}
 use Rattle.chain_decision.specs.declared.Deed.{Deed}
 use Rattle.chain_decision.specs.declared.Deed.the-variants.{Say, Read, Write}
@@ -126,8 +127,8 @@ module _ (us : Micros) where
 
   -- without a transfer there is nothing to drop
   none-done : (s : State) → noneB (s .transfer) ≡ true → time.passDrive us s .outcome ≡ Done
-  unfolding time.passDrive waitOf
-  none-done s h = rw (both (eqb (s .transfer .way) 0) _ h .0)
+  unfolding lateB
+  none-done s h = pass-outcome us s ∙ rw (both (eqb (s .transfer .way) 0) (idleB (s .transfer)) h .0)
 
 module _ (c : Chain) (h : chainSoundB c ≡ true) where
   abbrev d : Seen
@@ -284,17 +285,21 @@ module _ (c : Chain) (h : chainSoundB c ≡ true) where
     unfolding lookOf
     own-is k e = ap (λ (j : ℕ). time.passDrive us (slotState (c .states) j) .outcome) e
 
-    selected-first : d .selected ≡ true → (o : Outcome) → own ≡ o → answerNumber (outcomeAnswer o) ≡ firstApplies c (Pass us)
-    selected-first y Inhibited q = absurd (pass-acts us (d .state) q)
-    selected-first y Done q = first-pass false (none-fails (λ i f e. sym (seen i f) ∙ own-is (i + 1) e ∙ q))
-    selected-first y Fault q =
+    own-late : (t : Bool) → lateB us (d .state .transfer) ≡ t → own ≡ (if t then Fault else Done)
+    own-late t q = pass-outcome us (d .state) ∙ rw q
+
+    selected-first : d .selected ≡ true → (t : Bool) → lateB us (d .state .transfer) ≡ t
+        → answerNumber (if t then answer.Fault else answer.Taken) ≡ firstApplies c (Pass us)
+    selected-first y false q = first-pass false (none-fails (λ i f e. sym (seen i f) ∙ own-is (i + 1) e ∙ own-late false q))
+    selected-first y true q =
         let k = l .select in
         let there = state-there k (c .states) (is-slot c h k (on y)) in
         first-pass true (time-fault us (c .packs) (c .states) (k - 1) (listed c h k (on y)) (slot-room c h k (on y))
-        (ap (λ (s : State). time.passDrive us s .outcome) (sym there) ∙ own-is k refl ∙ q))
+        (ap (λ (s : State). time.passDrive us s .outcome) (sym there) ∙ own-is k refl ∙ own-late true q))
 
-    passes-first : (t : Bool) → d .selected ≡ t → answerNumber (if t then outcomeAnswer own else answer.Taken) ≡ firstApplies c (Pass us)
-    passes-first true y = selected-first y own refl
+    passes-first : (t : Bool) → d .selected ≡ t
+        → answerNumber (if t && lateB us (d .state .transfer) then answer.Fault else answer.Taken) ≡ firstApplies c (Pass us)
+    passes-first true y = selected-first y (lateB us (d .state .transfer)) refl
     passes-first false n = none-selected n
 
   cases : Cases c P

@@ -139,7 +139,7 @@ module _ (c : Chain) (h : chainSoundB c ≡ true) where
     read-kept a r m false q = rw (flag a r (eqb-false a 1 q)) (keeps.read-falls-keeps p v l s (here f))
 
     request-kept : (a : ℕ) → a ≤ 1 → movesB (Request a) l ≡ true → (t : Bool) → eqb a 1 ≡ t
-        → unit.driveSoundB p (with-request a l) true ((if t then requestRises p l s else requestFalls p s) .state) ≡ true
+        → unit.driveSoundB p (with-request a l) true ((if t then requestRises l s else requestFalls p s) .state) ≡ true
     request-kept a r m true q =
         let e = each (lineTests l) lines in
         rw (eqb-true a 1 q) (keeps.rises-keeps p v l s lines (risen (l .request) a (leb-true _ _ (e .1 .1 .1 .1 .1 .0)) (eqb-true a 1 q) m) (here f))

@@ -8,8 +8,10 @@ use Rattle.counts.specs.declared.Micros.{Micros}
 use Rattle.counts.specs.Choice.{if_then_else_}
 use Rattle.counts.proofs.Choice.{either-way, never}
 use Rattle.pack_profile.specs.declared.Profile.{Profile}
-use Rattle.handshake.specs.declared.Edge.{Edge}
-use Rattle.handshake.specs.declared.Edge.the-variants.{Keep, Drop, Carry}
+use Rattle.handshake.specs.declared.Held.{Held}
+use Rattle.handshake.specs.declared.Held.the-variants.{Keep, Drop}
+use Rattle.handshake.specs.declared.Fallen.{Fallen}
+use Rattle.handshake.specs.declared.Fallen.the-variants as fallen
 use Rattle.handshake.specs.Transfer.{openB}
 use Rattle.handshake.specs.Edges.{waitOf, riseOf, fallOf}
 use Rattle.drive_record.specs.declared.Body.{Body}
@@ -17,18 +19,18 @@ use Rattle.drive_record.specs.declared.State.{State}
 use Rattle.drive_record.specs.declared.Outcome.the-variants.{Done, Inhibited, Fault}
 use Rattle.drive_record.specs.declared.Ruled.{Ruled}
 use Rattle.drive_record.specs.State.{ruled}
+use Rattle.drive_record.specs.Faults.{heldOf}
 use Rattle.drive_record.specs.Status.{attentionB, calmB}
 use Rattle.drive_gates.specs.Gates.{usableB, writeRises, readRises, readFalls}
 use Rattle.drive_rules.specs.Heads.{headChange, metOf}
 use Rattle.drive_rules.specs.DriveLeft.{leftOf}
-use Rattle.drive_rules.specs.Time.{passBody, heldOf, passDrive}
+use Rattle.drive_rules.specs.Time.{passBody, passDrive}
 use Rattle.word_table.specs.declared.Effect.{Effect}
 use Rattle.word_table.specs.declared.Effect.the-variants.{Fails, Status, Configuration, Does}
 use Rattle.word_table.specs.Effect.{effectOf}
 use Rattle.word_rules.specs.Rules.{doneOf, carryOf}
 use Rattle.lines.specs.declared.Lines.{Lines}
-use Rattle.drive_cable.specs.Request as request
-use Rattle.drive_cable.specs.Request.{gatedB, requestRises, requestFalls}
+use Rattle.drive_cable.specs.Request.{gatedB, requestRises, fallenOf, requestFalls}
 
 -- "inhibited, nothing latched": the drive is as it was
 abbrev pub Unlatched : State → Ruled → Type 0
@@ -74,10 +76,9 @@ pub left-acts : (s : State) → Acts (leftOf s)
 unfolding leftOf
 left-acts s = either-way Acts (openB (s .transfer) || eqb (s .body .writing) 1) fault done
 
-held-acts : (b : Body) (e : Edge) → Acts (heldOf b e)
+held-acts : (b : Body) (e : Held) → Acts (heldOf b e)
 held-acts b (Keep t) h = done h
 held-acts b Drop h = fault h
-held-acts b (Carry n) h = fault h
 
 pub pass-acts : (us : Micros) (s : State) → Acts (passDrive us s)
 unfolding passDrive
@@ -90,19 +91,18 @@ effect-acts p b Status h = done h
 effect-acts p b (Configuration modifier) h = done h
 effect-acts p b (Does act) h = done h
 
-edge-acts : (p : Profile) (b : Body) (e : Edge) → Acts (request.edgeOf p b e)
+fallen-acts : (p : Profile) (b : Body) (e : Fallen) → Acts (fallenOf p b e)
 unfolding carryOf
-edge-acts p b (Keep t) h = done h
-edge-acts p b Drop h = fault h
-edge-acts p b (Carry n) h = effect-acts p b (effectOf p b n) h
+fallen-acts p b (fallen.Keep t) h = done h
+fallen-acts p b (fallen.Carry n) h = effect-acts p b (effectOf p b n) h
 
-pub rises-acts : (p : Profile) (l : Lines) (s : State) → Acts (requestRises p l s)
+pub rises-acts : (l : Lines) (s : State) → Acts (requestRises l s)
 unfolding requestRises
-rises-acts p l s = edge-acts p (s .body) (riseOf (gatedB l) (calmB (s .body)) (l .command) (s .transfer))
+rises-acts l s = held-acts (s .body) (riseOf (gatedB l) (calmB (s .body)) (l .command) (s .transfer))
 
 pub falls-acts : (p : Profile) (s : State) → Acts (requestFalls p s)
 unfolding requestFalls
-falls-acts p s = edge-acts p (s .body) (fallOf (s .transfer))
+falls-acts p s = fallen-acts p (s .body) (fallOf (s .transfer))
 
 -- a drive left without fault had neither a transfer nor writing; at most its reading ends
 pub left-done : (s : State) → leftOf s .outcome ≡ Done → leftOf s .state ≡ readFalls s

@@ -11,15 +11,15 @@ use Rattle.counts.specs.Choice.{if_then_else_}
 use Rattle.counts.proofs.Tests.{both}
 use Rattle.handshake.specs.declared.Transfer.{Transfer}
 use Rattle.handshake.specs.Transfer.{patience, noTransfer, openB}
-use Rattle.handshake.specs.declared.Edge.the-variants.{Keep, Drop}
-use Rattle.handshake.specs.Edges.{agedBy, waitOf}
+use Rattle.handshake.specs.declared.Held.the-variants.{Keep, Drop}
+use Rattle.handshake.specs.Edges.{agedBy, lateB, waitOf}
 use Rattle.drive_record.specs.declared.Body.{Body}
 use Rattle.drive_record.specs.declared.State.{State}
-use Rattle.drive_record.specs.Faults.{latchOf}
+use Rattle.drive_record.specs.declared.Outcome.the-variants.{Done, Fault}
 use Rattle.drive_record.specs.State.{starting, up, stateOf}
 use Rattle.drive_record.specs.Status.{calmB, completeB}
 use Rattle.drive_rules.specs.Time.{lessOf, motorAfter, passBody, passDrive}
-use Rattle.drive_record.specs.Faults.{droppedOf}
+use Rattle.drive_record.specs.Faults.{latchOf, droppedOf, heldOf}
 
 -- the motor comes up exactly where it is starting and its time, if any is left, runs out
 motor-same : (motor : ℕ) (busy us : Micros) → eqb motor starting ≡ false → motorAfter motor busy us ≡ motor
@@ -60,7 +60,7 @@ calm-stays us b h =
 
 -- a drive that is complete stays as it is
 pub complete-stays : (us : Micros) (s : State) → completeB s ≡ true → passDrive us s .state ≡ s
-unfolding passDrive waitOf completeB
+unfolding passDrive waitOf lateB completeB
 complete-stays us s h =
     let e = both (not (openB (s .transfer))) (calmB (s .body)) h in
     rw (calm-stays us (s .body) (e .1), closed (eqb (s .transfer .way) 0) (e .0))
@@ -72,7 +72,7 @@ complete-stays us s h =
 -- a drive with no transfer open, both timers run out, is complete
 pub complete-after : (us : Micros) (s : State) → openB (s .transfer) ≡ false → s .body .timers .busy .0 ≤ us .0 → s .body .timers .head .0 ≤ us .0
     → completeB (passDrive us s .state) ≡ true
-unfolding passDrive waitOf passBody completeB
+unfolding passDrive waitOf lateB passBody completeB
 complete-after us s h busy head =
     let z : eqb (s .transfer .way) 0 ≡ true = not-false _ h in
     rw (z, z, eq-eqb (s .body .timers .busy .0 - us .0) 0 (omega arith), eq-eqb (s .body .timers .head .0 - us .0) 0 (omega arith))
@@ -117,15 +117,15 @@ latch-later us value d = refl
 
 -- what time does to a transfer, case by case
 closed-waits : (us : Micros) (t : Transfer) → eqb (t .way) 0 ≡ true → waitOf us t ≡ Keep t
-unfolding waitOf
+unfolding waitOf lateB
 closed-waits us t z = rw z
 
 late-drops : (us : Micros) (t : Transfer) → eqb (t .way) 0 ≡ false → patience < t .waiting .0 + us .0 → waitOf us t ≡ Drop
-unfolding waitOf
+unfolding waitOf lateB
 late-drops us t z h = rw (z, lt-ltb patience (t .waiting .0 + us .0) h)
 
 open-waits : (us : Micros) (t : Transfer) → eqb (t .way) 0 ≡ false → t .waiting .0 + us .0 ≤ patience → waitOf us t ≡ Keep (agedBy us t)
-unfolding waitOf
+unfolding waitOf lateB
 open-waits us t z h = rw (z, le-ltb patience (t .waiting .0 + us .0) h)
 
 module _ (us : Micros) (s : State) where
@@ -141,6 +141,18 @@ module _ (us : Micros) (s : State) where
       → passDrive us s .state ≡ stateOf (passBody us (s .body)) (agedBy us (s .transfer))
   unfolding passDrive
   pass-open z h = rw (open-waits us (s .transfer) z h)
+
+-- time is a fault on a drive exactly where its transfer is late
+pub pass-outcome : (us : Micros) (s : State) → passDrive us s .outcome ≡ (if lateB us (s .transfer) then Fault else Done)
+unfolding passDrive waitOf
+pass-outcome us s = by (lateB us (s .transfer)) (openB (s .transfer))
+  where
+    by : (late runs : Bool)
+        → heldOf (passBody us (s .body)) (if late then Drop else if runs then Keep (agedBy us (s .transfer)) else Keep (s .transfer)) .outcome
+        ≡ (if late then Fault else Done)
+    by true runs = refl
+    by false true = refl
+    by false false = refl
 
 aged-twice : (a b : Micros) (t : Transfer) → agedBy b (agedBy a t) ≡ agedBy (plusOf a b) t
 aged-twice a b t = rw (add-assoc (t .waiting .0) (a .0) (b .0))

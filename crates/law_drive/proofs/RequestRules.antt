@@ -10,16 +10,16 @@ use Rattle.counts.proofs.Tests.{both, each, all}
 use Rattle.counts.proofs.Choice.{by-test}
 use Rattle.pack_profile.specs.declared.Profile.{Profile}
 use Rattle.pack_profile.specs.Valid.{validB}
-use Rattle.handshake.specs.declared.Edge.{Edge}
+use Rattle.handshake.specs.declared.Held.{Held}
+use Rattle.handshake.specs.declared.Fallen.{Fallen}
 use Rattle.handshake.specs.Transfer.{taking, responding, wordBits, noTransfer, respondingWith, openB}
 use Rattle.handshake.specs.Edges.{takenOf, putOutOf, riseOf, loweredOf, fallOf}
 use Rattle.handshake.specs.SoundTransfer.{leftB}
 use Rattle.drive_record.specs.declared.State.{State}
 use Rattle.drive_record.specs.State.{stateOf}
-use Rattle.drive_record.specs.Faults.{latchOf}
 use Rattle.drive_record.specs.Status.{calmB, completeB}
 use Rattle.drive_gates.specs.Gates.{usableTests, usableB}
-use Rattle.drive_record.specs.Faults.{droppedOf}
+use Rattle.drive_record.specs.Faults.{latchOf, droppedOf, heldOf}
 use Rattle.drive_record.proofs.WithinLimits.{parts, whole}
 use Rattle.drive_gates.proofs.MayReadOrWrite.{usable}
 use Rattle.word_rules.specs.declared.Told.{Told}
@@ -28,7 +28,7 @@ use Rattle.word_rules.specs.Rules.{carryOf}
 use Rattle.word_rules.proofs.WordLaws.{told-reply, word-leaves}
 use Rattle.word_rules.proofs.WordLimits.{limits-kept}
 use Rattle.lines.specs.declared.Lines.{Lines}
-use Rattle.drive_cable.specs.Request.{afterWord, carriedOut, edgeOf, gatedB, requestRises, requestFalls}
+use Rattle.drive_cable.specs.Request.{afterWord, carriedOut, fallenOf, gatedB, requestRises, requestFalls}
 use Rattle.drive_cable.specs.SoundDrive.{writingB, readingB, driveSoundB}
 use Rattle.lines.specs.Lines.{lineTests, linesB}
 use Rattle.drive_cable.proofs.OnCable.{Selected, selected, Reads}
@@ -82,7 +82,7 @@ module _ (p : Profile) (v : validB p ≡ true) (l : Lines) (s : State) where
         reading = still-reads p l s f m r refl reads-on;
       })
 
-  pub rises-keeps : linesB l ≡ true → l .request ≡ 0 → driveSoundB p l true s ≡ true → driveSoundB p (with-request 1 l) true (requestRises p l s .state) ≡ true
+  pub rises-keeps : linesB l ≡ true → l .request ≡ 0 → driveSoundB p l true s ≡ true → driveSoundB p (with-request 1 l) true (requestRises l s .state) ≡ true
   unfolding requestRises riseOf
   rises-keeps k low sound =
       let f = selected p l s sound in
@@ -90,7 +90,7 @@ module _ (p : Profile) (v : validB p ≡ true) (l : Lines) (s : State) where
       let m = with-request 1 l in
       let drops = dropped-sound sound in
       let left = rise-left (l .command) (s .transfer) (leb-true _ _ (each (lineTests l) k .1 .1 .1 .1 .0)) (rw low at (f .left)) in
-      let or = by-test (λ (e : Edge). driveSoundB p m true (edgeOf p (s .body) e .state) ≡ true) in
+      let or = by-test (λ (e : Held). driveSoundB p m true (heldOf (s .body) e .state) ≡ true) in
       or (gatedB l) _ _ (λ _. drops) λ off.
       let e = both-off (eqb (l .writegate) 1) (eqb (l .readgate) 1) off in
       let shut = write-gate-off p l s f (eqb-false _ _ (e .0)) in
@@ -118,7 +118,7 @@ module _ (p : Profile) (v : validB p ≡ true) (l : Lines) (s : State) where
       let q = sound-parts p l true s sound in
       let m = with-request 0 l in
       let left : leftB 1 (s .transfer) ≡ true = rw high at (f .left) in
-      let or = by-test (λ (e : Edge). driveSoundB p m true (edgeOf p (s .body) e .state) ≡ true) in
+      let or = by-test (λ (e : Fallen). driveSoundB p m true (fallenOf p (s .body) e .state) ≡ true) in
       or (not (eqb (s .transfer .acknowledge) 1)) _ _
       (λ down. from-selected p m s (record {
         limits = f .limits;

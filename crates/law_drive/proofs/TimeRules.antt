@@ -3,23 +3,23 @@ use mathlib.Core.Path.{_≡_, refl}
 use mathlib.Core.Bool.{Bool, true, false}
 use Prim.Native.Nat.{_+_, _≤_}
 use native.Mathlib.Omega.{arith}
-use lib.Dec.{ltb, eqb}
-use borrow.Author.Tests.{ltb-false, eqb-false}
+use lib.Dec.{eqb}
+use borrow.Author.Tests.{eqb-false, not-true}
 use Rattle.counts.specs.declared.Micros.{Micros}
 use Rattle.counts.proofs.Tests.{both}
 use Rattle.counts.proofs.Choice.{by-test}
 use Rattle.pack_profile.specs.declared.Profile.{Profile}
 use Rattle.pack_profile.specs.Valid.{validB}
-use Rattle.handshake.specs.declared.Edge.{Edge}
-use Rattle.handshake.specs.Transfer.{patience, noTransfer}
-use Rattle.handshake.specs.Edges.{agedBy, waitOf}
+use Rattle.handshake.specs.declared.Held.{Held}
+use Rattle.handshake.specs.Transfer.{patience, noTransfer, openB}
+use Rattle.handshake.specs.Edges.{agedBy, lateB, waitOf}
 use Rattle.handshake.specs.SoundTransfer.{idleB}
+use Rattle.handshake.proofs.Patience.{not-late}
 use Rattle.drive_record.specs.declared.State.{State}
 use Rattle.drive_record.specs.State.{stateOf}
-use Rattle.drive_record.specs.Faults.{latchOf}
 use Rattle.drive_record.specs.Status.{completeB}
-use Rattle.drive_rules.specs.Time.{passBody, heldOf, passDrive}
-use Rattle.drive_record.specs.Faults.{droppedOf}
+use Rattle.drive_rules.specs.Time.{passBody, passDrive}
+use Rattle.drive_record.specs.Faults.{latchOf, droppedOf, heldOf}
 use Rattle.drive_record.proofs.WithinLimits.{parts, whole}
 use Rattle.lines.specs.declared.Lines.{Lines}
 use Rattle.drive_cable.specs.SoundDrive.{driveSoundB}
@@ -40,13 +40,15 @@ module _ (p : Profile) (v : validB p ≡ true) (l : Lines) (s : State) where
       let q = pass-limits p (s .body) (sound-parts p l true s sound) us in
       let n = not-complete p l s f busy in
       let b = passBody us (s .body) in
-      let or = by-test (λ (e : Edge). driveSoundB p l true (heldOf b e .state) ≡ true) in
-      or (eqb (s .transfer .way) 0) _ _ (λ none. neither p l (stateOf b (s .transfer)) q (f .head) (f .left) (n .0) (n .1)) λ some.
-      or (ltb patience (s .transfer .waiting .0 + us .0)) _ _
+      let or = by-test (λ (e : Held). driveSoundB p l true (heldOf b e .state) ≡ true) in
+      or (lateB us (s .transfer)) _ _
       (λ late. neither p l (droppedOf b) (latch-limits p b q 6 (omega arith) refl) (f .head) (none-left (l .request) noTransfer refl) refl (n .1))
       λ short.
-      let left = aged-left us (l .request) (s .transfer) (eqb-false _ _ some) (ltb-false _ _ short) (f .left) in
-      neither p l (stateOf b (agedBy us (s .transfer))) q (f .head) left (n .0) (n .1)
+      or (openB (s .transfer)) _ _
+      (λ some.
+      let left = aged-left us (l .request) (s .transfer) (eqb-false _ _ (not-true _ some)) (not-late us (s .transfer) short some) (f .left) in
+      neither p l (stateOf b (agedBy us (s .transfer))) q (f .head) left (n .0) (n .1))
+      λ none. neither p l (stateOf b (s .transfer)) q (f .head) (f .left) (n .0) (n .1)
 
   -- a drive that has no transfer
   rests-sound : (us : Micros) → Unselected p s → driveSoundB p l false (stateOf (passBody us (s .body)) (s .transfer)) ≡ true

@@ -8,6 +8,8 @@ use mathlib.Core.Option.{Option, none, some}
 use lib.ListN.{length}
 use Rattle.counts.specs.Choice.{if_then_else_}
 use Rattle.handshake.specs.Transfer.{noTransfer}
+use Rattle.event.specs.declared.Answer.the-variants.{Taken, Fault}
+use Rattle.event.specs.Answer.{answerNumber}
 use Rattle.law_exchange.specs.Host.{ask, Sending, Going, going, exchanged, sends, raises, replies, goesOn, exchanges}
 use Rattle.law_exchange.specs.Waits.{levelOf, sentLevel, fetchLevel, sentWord, bitsOf, timeOf, sentTime, fetchTime, sentCount, fetchCount, InTime}
 use Rattle.law_exchange.specs.Unit.{Carried, Rules, Wired, wired, unitAfterWord, unit}
@@ -42,14 +44,14 @@ module _ {B : Type 0} (R : Rules B) (L : Laws R) (w : Sending) (b : B) (l : ℕ)
       (rest-goes R L (w .first .low) b l 0 0 0 [] ∙ recount b₁ noTransfer l₁ 0 [] (0 + t₁) t₁ (0 + n₁) n₁ (omega arith) (omega arith))
 
   -- not complete: bit 6, no acknowledge, and the host ends
-  refuses : R .calm b₁ ≡ false → sends (unit R) (ask 1) ready ≡ going (wired (R .fault b₁) noTransfer l₁ 1 t₁) (5 ∷ zeros n₁ [])
+  refuses : R .calm b₁ ≡ false → sends (unit R) (ask 1) ready ≡ going (wired (R .fault b₁) noTransfer l₁ 1 t₁) (answerNumber Fault ∷ zeros n₁ [])
   refuses q = rw (q, busy-rise l₁)
 
   turned-away : R .calm b₁ ≡ false → exchanges (unit R) w (rests b l 0) ≡ unitRefused w l (R .fault b₁)
   turned-away q = ap (goesOn (unit R) w) (to-rise ∙ refuses q) ∙ rw none-fall
 
   -- complete: the first bit is taken
-  takes : R .calm b₁ ≡ true → sends (unit R) (ask 1) ready ≡ going (wired b₁ (bitsIn 1 (0 * 2 + l₁) 1 0) l₁ 1 t₁) (0 ∷ zeros n₁ [])
+  takes : R .calm b₁ ≡ true → sends (unit R) (ask 1) ready ≡ going (wired b₁ (bitsIn 1 (0 * 2 + l₁) 1 0) l₁ 1 t₁) (answerNumber Taken ∷ zeros n₁ [])
   takes q = rw (q, first-rise l₁)
 
   module _ (fit : InTime w) (one : l ≤ 1) (q : R .calm b₁ ≡ true) where

@@ -6,9 +6,10 @@ use mathlib.Core.Path.{_≡_, refl}
 use mathlib.Core.Bool.{Bool, true, false}
 use borrow.Author.Tests.{lt-ltb, le-ltb}
 use Rattle.handshake.specs.declared.Transfer.{Transfer}
-use Rattle.handshake.specs.declared.Edge.the-variants.{Keep, Drop, Carry}
+use Rattle.handshake.specs.declared.Held.the-variants.{Keep, Drop}
+use Rattle.handshake.specs.declared.Fallen.the-variants as fallen
 use Rattle.handshake.specs.Transfer.{taking, responding, wordBits, patience, noTransfer}
-use Rattle.handshake.specs.Edges.{riseOf, fallOf, waitOf}
+use Rattle.handshake.specs.Edges.{riseOf, fallOf, lateB, waitOf}
 
 -- k bits taken that make v, or k of the response r put out; so long since the last edge
 abbrev pub bitsIn : ℕ → ℕ → ℕ → ℕ → Transfer
@@ -33,34 +34,34 @@ pub out-rise : (calm : Bool) (k r w x : ℕ) → k < wordBits → riseOf false c
 unfolding riseOf
 out-rise calm k r w x h = rw (lt-ltb k 17 h, add-one k)
 
-pub next-fall : (k v w : ℕ) → k < wordBits → fallOf (bitsIn k v 1 w) ≡ Keep (bitsIn k v 0 0)
+pub next-fall : (k v w : ℕ) → k < wordBits → fallOf (bitsIn k v 1 w) ≡ fallen.Keep (bitsIn k v 0 0)
 unfolding fallOf
 next-fall k v w h = rw (lt-ltb k 17 h)
 
-pub word-fall : (v w : ℕ) → fallOf (bitsIn wordBits v 1 w) ≡ Carry v
+pub word-fall : (v w : ℕ) → fallOf (bitsIn wordBits v 1 w) ≡ fallen.Carry v
 unfolding fallOf
 word-fall v w = refl
 
-pub out-fall : (k r w : ℕ) → k < wordBits → fallOf (bitsOut k r 1 w) ≡ Keep (bitsOut k r 0 0)
+pub out-fall : (k r w : ℕ) → k < wordBits → fallOf (bitsOut k r 1 w) ≡ fallen.Keep (bitsOut k r 0 0)
 unfolding fallOf
 out-fall k r w h = rw (lt-ltb k 17 h)
 
-pub end-fall : (r w : ℕ) → fallOf (bitsOut wordBits r 1 w) ≡ Keep noTransfer
+pub end-fall : (r w : ℕ) → fallOf (bitsOut wordBits r 1 w) ≡ fallen.Keep noTransfer
 unfolding fallOf
 end-fall r w = refl
 
-pub none-fall : fallOf noTransfer ≡ Keep noTransfer
+pub none-fall : fallOf noTransfer ≡ fallen.Keep noTransfer
 unfolding fallOf
 none-fall = refl
 
 pub none-wait : (us : ℕ) → waitOf (record { 0 = us }) noTransfer ≡ Keep noTransfer
-unfolding waitOf
+unfolding waitOf lateB
 none-wait us = refl
 
 pub in-wait : (k v a w us : ℕ) → w + us ≤ patience → waitOf (record { 0 = us }) (bitsIn k v a w) ≡ Keep (bitsIn k v a (w + us))
-unfolding waitOf
+unfolding waitOf lateB
 in-wait k v a w us h = rw (le-ltb 10_000 (w + us) h)
 
 pub out-wait : (k r a w us : ℕ) → w + us ≤ patience → waitOf (record { 0 = us }) (bitsOut k r a w) ≡ Keep (bitsOut k r a (w + us))
-unfolding waitOf
+unfolding waitOf lateB
 out-wait k r a w us h = rw (le-ltb 10_000 (w + us) h)

@@ -6,9 +6,11 @@ use mathlib.Core.Bool.{true}
 use mathlib.Core.List.{List, [], _∷_}
 use lib.ListN.{length}
 use Rattle.handshake.specs.declared.Transfer.{Transfer}
-use Rattle.handshake.specs.declared.Edge.the-variants.{Keep}
+use Rattle.handshake.specs.declared.Held.the-variants.{Keep}
 use Rattle.handshake.specs.Transfer.{patience, noTransfer}
 use Rattle.handshake.specs.Edges.{waitOf}
+use Rattle.event.specs.declared.Answer.the-variants.{Taken}
+use Rattle.event.specs.Answer.{answerNumber}
 use Rattle.law_exchange.specs.Host.{micros, Still, waits, sets, high, going, sends, goes}
 use Rattle.law_exchange.specs.Waits.{levelOf, timeOf}
 use Rattle.law_exchange.specs.Unit.{Rules, wired, unit}
@@ -24,7 +26,7 @@ recount b t c q log e f m n p r = λ i. going (wired b t c q (p i)) (zeros (r i)
 module _ {B : Type 0} (R : Rules B) (L : Laws R) where
   -- no transfer open
   rest-wait : (us : ℕ) (b : B) (c q e : ℕ) (log : List ℕ)
-      → sends (unit R) (micros us) (going (wired b noTransfer c q e) log) ≡ going (wired (R .pass us b) noTransfer c q (e + us)) (0 ∷ log)
+      → sends (unit R) (micros us) (going (wired b noTransfer c q e) log) ≡ going (wired (R .pass us b) noTransfer c q (e + us)) (answerNumber Taken ∷ log)
   rest-wait us b c q e log = rw (none-wait us)
 
   pub rest-goes : (xs : List Still) (b : B) (c q e n : ℕ) (log : List ℕ)
@@ -43,7 +45,7 @@ module _ {B : Type 0} (R : Rules B) (L : Laws R) where
   -- a transfer open, told by the microseconds it has waited
   module _ (open-at : ℕ → Transfer) (ages : (w us : ℕ) → w + us ≤ patience → waitOf (record { 0 = us }) (open-at w) ≡ Keep (open-at (w + us))) where
     one-wait : (us w : ℕ) (b : B) (c q e : ℕ) (log : List ℕ) → R .calm b ≡ true → w + us ≤ patience
-        → sends (unit R) (micros us) (going (wired b (open-at w) c q e) log) ≡ going (wired b (open-at (w + us)) c q (e + us)) (0 ∷ log)
+        → sends (unit R) (micros us) (going (wired b (open-at w) c q e) log) ≡ going (wired b (open-at (w + us)) c q (e + us)) (answerNumber Taken ∷ log)
     one-wait us w b c q e log k h = rw (ages w us h, L .pass-calm us b k)
 
     pub open-goes : (xs : List Still) (w : ℕ) (b : B) (c q e n : ℕ) (log : List ℕ) → R .calm b ≡ true → w + timeOf xs ≤ patience

@@ -5,10 +5,14 @@ use mathlib.Core.Option.{Option, none, some}
 use lib.Dec.{eqb}
 use Rattle.counts.specs.Choice.{if_then_else_}
 use Rattle.handshake.specs.declared.Transfer.{Transfer}
-use Rattle.handshake.specs.declared.Edge.{Edge}
-use Rattle.handshake.specs.declared.Edge.the-variants.{Keep, Drop, Carry}
+use Rattle.handshake.specs.declared.Held.{Held}
+use Rattle.handshake.specs.declared.Held.the-variants.{Keep, Drop}
+use Rattle.handshake.specs.declared.Fallen.{Fallen}
+use Rattle.handshake.specs.declared.Fallen.the-variants as fallen
 use Rattle.handshake.specs.Transfer.{responding, noTransfer, respondingWith, statusLine}
 use Rattle.handshake.specs.Edges.{riseOf, fallOf, waitOf}
+use Rattle.event.specs.declared.Answer.the-variants.{Taken, Fault}
+use Rattle.event.specs.Answer.{answerNumber}
 use Rattle.law_exchange.specs.Host.{Signal, level, ask, micros, Cable}
 
 -- what a word leaves of a unit, its response if it has one, and whether a fault rule applied
@@ -48,30 +52,28 @@ unitAfterWord (some r) = respondingWith r
 
 -- "5 a fault rule applied", else "0 taken"
 abbrev pub unitCarriedOut : {B : Type 0} → Carried B → Met B
-unitCarriedOut c = record { body = c .body; transfer = unitAfterWord (c .told); answer = if c .fails then 5 else 0 }
+unitCarriedOut c = record { body = c .body; transfer = unitAfterWord (c .told); answer = if c .fails then answerNumber Fault else answerNumber Taken }
 
 module _ {B : Type 0} (R : Rules B) where
   -- "bit 6, dropped"
   abbrev pub dropped : B → Met B
-  dropped b = record { body = R .fault b; transfer = noTransfer; answer = 5 }
+  dropped b = record { body = R .fault b; transfer = noTransfer; answer = answerNumber Fault }
 
-  abbrev pub met : B → Edge → Met B
-  met b (Keep t) = record { body = b; transfer = t; answer = 0 }
-  met b Drop = dropped b
-  met b (Carry n) = unitCarriedOut (R .carry n b)
-
-  -- a wait carries nothing out
-  abbrev pub unitHeld : B → Edge → Met B
-  unitHeld b (Keep t) = record { body = b; transfer = t; answer = 0 }
+  -- what a rise or a wait leaves of the unit, and what a fall does
+  abbrev pub unitHeld : B → Held → Met B
+  unitHeld b (Keep t) = record { body = b; transfer = t; answer = answerNumber Taken }
   unitHeld b Drop = dropped b
-  unitHeld b (Carry n) = dropped b
+
+  abbrev pub unitFall : B → Fallen → Met B
+  unitFall b (fallen.Keep t) = record { body = b; transfer = t; answer = answerNumber Taken }
+  unitFall b (fallen.Carry n) = unitCarriedOut (R .carry n b)
 
   -- request's edges, no gate on
   abbrev pub unitRisen : Wired B → Met B
-  unitRisen u = met (u .body) (riseOf false (R .calm (u .body)) (u .command) (u .transfer))
+  unitRisen u = unitHeld (u .body) (riseOf false (R .calm (u .body)) (u .command) (u .transfer))
 
-  abbrev pub fallen : Wired B → Met B
-  fallen u = met (u .body) (fallOf (u .transfer))
+  abbrev pub unitFallen : Wired B → Met B
+  unitFallen u = unitFall (u .body) (fallOf (u .transfer))
 
   abbrev pub unitPassed : ℕ → Wired B → Met B
   unitPassed us u = unitHeld (R .pass us (u .body)) (waitOf (record { 0 = us }) (u .transfer))
@@ -79,9 +81,9 @@ module _ {B : Type 0} (R : Rules B) where
   -- "Setting a line to the level it has does nothing."
   abbrev pub asked : ℕ → Wired B → Met B
   asked v u =
-      if eqb (u .request) v then record { body = u .body; transfer = u .transfer; answer = 0 }
+      if eqb (u .request) v then record { body = u .body; transfer = u .transfer; answer = answerNumber Taken }
       else if eqb v 1 then unitRisen u
-      else fallen u
+      else unitFallen u
 
   abbrev pub after : Signal → Wired B → Wired B
   after (level v) u = wired (u .body) (u .transfer) v (u .request) (u .elapsed)
@@ -89,7 +91,7 @@ module _ {B : Type 0} (R : Rules B) where
   after (micros us) u = wired (unitPassed us u .body) (unitPassed us u .transfer) (u .command) (u .request) (u .elapsed + us)
 
   abbrev pub answer : Signal → Wired B → ℕ
-  answer (level v) u = 0
+  answer (level v) u = answerNumber Taken
   answer (ask v) u = asked v u .answer
   answer (micros us) u = unitPassed us u .answer
 

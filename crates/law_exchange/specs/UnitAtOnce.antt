@@ -5,28 +5,30 @@ use mathlib.Core.Option.{Option, none, some}
 use lib.ListN.{length}
 use Rattle.counts.specs.Choice.{if_then_else_}
 use Rattle.handshake.specs.Transfer.{wordBits, noTransfer}
+use Rattle.event.specs.declared.Answer.the-variants.{Taken, Fault}
+use Rattle.event.specs.Answer.{answerNumber}
 use Rattle.law_exchange.specs.Host.{Sending, Exchanged, going, exchanged}
 use Rattle.law_exchange.specs.Waits.{levelOf, sentLevel, fetchLevel, sentWord, bitsOf, timeOf, sentTime, fetchTime, sentCount, fetchCount}
 use Rattle.law_exchange.specs.Unit.{Carried, Rules, Wired, wired}
 
--- so many answers 0, on top of those given before
+-- so many answers "0 taken", on top of those given before
 abbrev pub zeros : ℕ → List ℕ → List ℕ
 zeros zero log = log
-zeros (suc n) log = 0 ∷ zeros n log
+zeros (suc n) log = answerNumber Taken ∷ zeros n log
 
 -- no transfer open, request low
 abbrev pub rests : {B : Type 0} → B → ℕ → ℕ → Wired B
 rests b command elapsed = wired b noTransfer command 0 elapsed
 
--- the 17th fall's answer: 5 where the word faults
+-- the 17th fall's answer: "5 a fault rule applied" where the word faults
 abbrev pub unitFallAnswer : {B : Type 0} → Carried B → ℕ
-unitFallAnswer c = if c .fails then 5 else 0
+unitFallAnswer c = if c .fails then answerNumber Fault else answerNumber Taken
 
 module _ (w : Sending) (l : ℕ) where
   -- not complete at the first rise: that answers 5 and latches bit 6, request falls at once, and no later wait counts
   abbrev pub unitRefused : {B : Type 0} → B → Exchanged (Wired B)
   unitRefused b =
-      exchanged (going (rests b (levelOf l (w .first .low)) (timeOf (w .first .low))) (0 ∷ 5 ∷ zeros (length (w .first .low)) [])) none
+      exchanged (going (rests b (levelOf l (w .first .low)) (timeOf (w .first .low))) (answerNumber Taken ∷ answerNumber Fault ∷ zeros (length (w .first .low)) [])) none
 
   abbrev pub unitLevel : ℕ
   unitLevel = sentLevel l (w .first ∷ w .more)

@@ -30,7 +30,7 @@ use Rattle.chain_decide.specs.Decide.{decideOf}
 use Rattle.chain_apply.specs.Apply.{putOf, passSlot, changedOf, applied}
 use Rattle.chain_sound.proofs.SoundSlots.{state-there}
 use Rattle.law_exchange.specs.Host.{Signal, level, ask, micros}
-use Rattle.law_exchange.specs.Unit.{Met, Wired, unitRisen, fallen, unitPassed, asked, after, answer, unit}
+use Rattle.law_exchange.specs.Unit.{Met, Wired, unitRisen, unitFallen, unitPassed, asked, after, answer, unit}
 use Rattle.law_exchange.proofs.Like.{Alike}
 use Rattle.law_words.specs.Drive.{drive}
 use Rattle.chain_step.specs.Run.{Lent}
@@ -128,7 +128,7 @@ module _ (c : Chain) (file : List ℕ) where
       ask-after v false false e f =
           rw (e, f)
           (ap (λ (states : List State). put states v)
-          (ruled _ (fallen (drive (lookOf c .profile)) u) (fall-state (lookOf c .profile) u)))
+          (ruled _ (unitFallen (drive (lookOf c .profile)) u) (fall-state (lookOf c .profile) u)))
 
       ask-answer : (v : ℕ) (same high : Bool) → eqb (u .request) v ≡ same → eqb v 1 ≡ high
           → said (requestEvent (sight state) lines v) ≡ answer (drive (lookOf c .profile)) (ask v) u
@@ -140,7 +140,7 @@ module _ (c : Chain) (file : List ℕ) where
           let edge : asked (drive (lookOf c .profile)) v u ≡ unitRisen (drive (lookOf c .profile)) u = rw (e, f) in
           rw (e, f) (rise-answer (lookOf c .profile) u lines (off u) refl ∙ sym (ap (λ (m : Met Body). m .answer) edge))
       ask-answer v false false e f =
-          let edge : asked (drive (lookOf c .profile)) v u ≡ fallen (drive (lookOf c .profile)) u = rw (e, f) in
+          let edge : asked (drive (lookOf c .profile)) v u ≡ unitFallen (drive (lookOf c .profile)) u = rw (e, f) in
           rw (e, f) (fall-answer (lookOf c .profile) u ∙ sym (ap (λ (m : Met Body). m .answer) edge))
 
       -- kind 6

@@ -6,7 +6,7 @@ use mathlib.Core.Bool.{true, false}
 use mathlib.Core.List.{List, [], _∷_}
 use Rattle.pack_profile.specs.declared.Profile.{Profile}
 use Rattle.handshake.specs.Transfer.{noTransfer}
-use Rattle.handshake.specs.Edges.{waitOf}
+use Rattle.handshake.specs.Edges.{lateB, waitOf}
 use Rattle.drive_record.specs.declared.Body.{Body}
 use Rattle.drive_record.specs.declared.Outcome.the-variants.{Fault}
 use Rattle.drive_record.specs.State.{stateOf}
@@ -33,7 +33,7 @@ unfolding completeB
 complete-calm b = refl
 
 pub rest-pass : (us : ℕ) (b : Body) → passDrive (record { 0 = us }) (stateOf b noTransfer) .state ≡ stateOf (passBody (record { 0 = us }) b) noTransfer
-unfolding passDrive waitOf
+unfolding passDrive waitOf lateB
 rest-pass us b = refl
 
 -- time neither begins nor ends reading or writing

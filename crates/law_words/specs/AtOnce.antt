@@ -13,6 +13,7 @@ use Rattle.word_rules.specs.declared.Told.the-variants.{Nothing, Word}
 use Rattle.word_rules.specs.declared.Answered.{Answered}
 use Rattle.word_rules.specs.Rules.{plainOf}
 use Rattle.event.specs.declared.Event.the-variants.{Pass}
+use Rattle.event.specs.declared.Answer.the-variants.{Taken, Fault}
 use Rattle.event.specs.Answer.{answerNumber}
 use Rattle.chain_record.specs.declared.Chain.{Chain}
 use Rattle.chain_record.specs.Record.{lookOf}
@@ -88,7 +89,7 @@ module _ (w : Sending) (d : Lent) where
   abbrev pub refused : Exchanged Lent
   refused = record {
     now = record { chain = given word (levelOf level (w .first .low)) risen; file = d .file };
-    answers = 0 ∷ 5 ∷ zeros (length (w .first .low)) [];
+    answers = answerNumber Taken ∷ answerNumber Fault ∷ zeros (length (w .first .low)) [];
     response = none;
   }
 

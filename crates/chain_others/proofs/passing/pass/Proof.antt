@@ -4,19 +4,16 @@ use borrow.Author.Needs.{needs}
 use Rattle.chain_others.proofs.passing.pass.Statement.{statement}
 use Rattle.chain_others.proofs.passing.pass.Tie as tie
 
-pass-requires : tie.Need-pass-requires
-pass-requires c κs = search needs
-
-answer-of-requires : tie.Need-answer-of-requires
-answer-of-requires c κs = search needs
+late-requires : tie.Need-late-requires
+late-requires c κs = search needs
 
 returns : tie.Need-returns
 unfolding passEvent
-returns c = simp (c .before .before .pass .ensures, c .before .if1 .taken, c .answer-of .ensures)
+returns c = simp (← c .before .before .late .ensures, c .if1 .taken)
 
 returns-2 : tie.Need-returns-2
 unfolding passEvent
-returns-2 c = simp (c .if1 .left)
+returns-2 c = simp (← c .before .before .late .ensures, c .if1 .left)
 
 pub pass-spec : {M : Type 1} → statement M
-pass-spec = tie.close (tie.spec pass-requires answer-of-requires returns returns-2)
+pass-spec = tie.close (tie.spec late-requires returns returns-2)

@@ -13,15 +13,14 @@ calm-requires c κs = search needs
 rise-requires : tie.Need-rise-requires
 rise-requires c κs = search needs
 
-met-requires : tie.Need-met-requires
-met-requires c κs = search needs
+held-requires : tie.Need-held-requires
+held-requires c κs = search needs
 
 returns : tie.Need-returns
 unfolding requestRises
 returns c =
     let b2 = c .before .before in
-    let b3 = b2 .before in
-    simp (← b3 .gated .ensures, ← b2 .calm .ensures, c .before .rise .ensures, c .met .ensures)
+    simp (← b2 .before .gated .ensures, ← b2 .calm .ensures, c .before .rise .ensures, c .held .ensures)
 
 pub rises-spec : {M : Type 1} → statement M
-rises-spec = tie.close (tie.spec gated-requires calm-requires rise-requires met-requires returns)
+rises-spec = tie.close (tie.spec gated-requires calm-requires rise-requires held-requires returns)
