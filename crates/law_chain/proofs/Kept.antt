@@ -97,7 +97,7 @@ module _ (c : Chain) (h : chainSoundB c ≡ true) where
   with states m = record { packs = c .packs; states = states; lines = m; length = c .length }
 
   -- one state put: the chain is sound where its drive is, and where all others stay so
-  one-put : (m : Lines) → linesB m ≡ true → (slot : ℕ) (s : State) → Fitted slot → At m slot s
+  pub one-put : (m : Lines) → linesB m ≡ true → (slot : ℕ) (s : State) → Fitted slot → At m slot s
       → ((k : ℕ) → Fitted k → (k ≡ slot → ⊥) → At m k (of k)) → chainSoundB (with (putOf (c .states) slot s) m) ≡ true
   one-put m lm slot s fs new others =
       slots-sound c h m (putOf (c .states) slot s) lm (omega (arith, put-long (c .states) slot s, enough c h))

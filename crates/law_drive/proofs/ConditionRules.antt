@@ -25,7 +25,7 @@ use Rattle.law_drive.proofs.Bodies.{latch-limits, lostBody, lost-limits
 
 module _ (p : Profile) (v : validB p ≡ true) (l : Lines) (s : State) where
   -- a bit latched: writing ends, reading goes on
-  latched-sound : (on : Bool) (k : ℕ) → 2 ^ k < 512 → bit (2 ^ k) 2 ≡ 0 → driveSoundB p l on s ≡ true
+  pub latched-sound : (on : Bool) (k : ℕ) → 2 ^ k < 512 → bit (2 ^ k) 2 ≡ 0 → driveSoundB p l on s ≡ true
       → driveSoundB p l on (stateOf (latchBit k (s .body)) (s .transfer)) ≡ true
   unfolding usableB completeB latchOf
   latched-sound true k small clear sound =

@@ -15,6 +15,7 @@ pub use Rattle.law_drive.proofs.GateRules.{write-rises-keeps, write-fal
 pub use Rattle.law_drive.proofs.SelectRules.{heads-keeps, entered-keeps, left-keeps}
 pub use Rattle.law_drive.proofs.TimeRules.{pass-keeps}
 pub use Rattle.law_drive.proofs.ConditionRules.{condition-keeps}
+pub use Rattle.law_drive.proofs.WordRules.{plain-keeps}
 
 pub fresh-sound : (p : Profile) → validB p ≡ true → (l : Lines) → driveSoundB p l false (freshOf p) ≡ true
 fresh-sound p v l = from-unselected p l (freshOf p) (record { limits = whole p _ (fresh-limits p v); none = refl; writing = refl; reading = refl })

@@ -9,4 +9,5 @@ pub mod GateRules
 pub mod SelectRules
 pub mod ConditionRules
 pub mod TimeRules
+pub mod WordRules
 pub mod Keeps

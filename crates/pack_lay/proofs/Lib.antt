@@ -2,3 +2,4 @@ pub mod LaidLists
 pub mod Laying
 pub mod ReadLaid
 pub mod LaidRead
+pub mod LaidFiles
