@@ -61,7 +61,7 @@ fn cases() -> Vec<Pair> {
         Pair { name: "1 heads", setup: sel.clone(), turn: vec![(1, 1, 0), (1, 0, 0)] },
         Pair { name: "2 write gate", setup: sel.clone(), turn: vec![(2, 1, 0), (2, 0, 0)] },
         Pair { name: "3 read gate", setup: sel.clone(), turn: vec![(3, 1, 0), (3, 0, 0)] },
-        Pair { name: "4 data", setup: sel.clone(), turn: vec![(4, 1, 0), (4, 0, 0)] },
+        Pair { name: "4 command data", setup: sel.clone(), turn: vec![(4, 1, 0), (4, 0, 0)] },
         Pair { name: "5 word sent", setup: sel.clone(), turn: word_bits(twin::with_parity(0x5000)) },
         Pair { name: "6 pass", setup: sel.clone(), turn: vec![(6, 10, 0), (6, 20, 0)] },
         Pair { name: "7 cell written", setup: w, turn: vec![(7, 100, 1), (7, 200, 2)] },

@@ -4,7 +4,7 @@
  *     board PACK-FILE < EVENTS */
 #include <fcntl.h>
 #include <stdio.h>
-#include <string.h>
+#include <stdlib.h>
 #include <sys/mman.h>
 #include <sys/stat.h>
 #include <unistd.h>
@@ -14,19 +14,35 @@
 /* All zeros: the empty chain. */
 static struct esdi_chain chain;
 
-/* The file as memory, to be read and written where it lies. */
+/* The file as memory, to be read and written where it lies; where it can't be had, NULL, and why is said. */
 static uint8_t *mapped(const char *name, size_t *length) {
     static uint8_t nothing;
     struct stat status;
+    void *at = MAP_FAILED;
     int file = open(name, O_RDWR);
-    if (file < 0 || fstat(file, &status) < 0)
-        return NULL;
-    *length = (size_t)status.st_size;
-    if (*length == 0)
-        return &nothing;
-    void *at = mmap(NULL, *length, PROT_READ | PROT_WRITE, MAP_SHARED, file, 0);
-    close(file);
+    if (file >= 0 && fstat(file, &status) == 0) {
+        *length = (size_t)status.st_size;
+        at = *length ? mmap(NULL, *length, PROT_READ | PROT_WRITE, MAP_SHARED, file, 0) : &nothing;
+    }
+    if (at == MAP_FAILED)
+        perror(name);
+    if (file >= 0)
+        close(file);
     return at == MAP_FAILED ? NULL : at;
+}
+
+/* The next event: 1, or 0 at the end, or -1 where the line isn't three numbers. */
+static int next(uint32_t event[3]) {
+    char line[64], *at = line, *end = line;
+    if (!fgets(line, sizeof line, stdin))
+        return 0;
+    for (int i = 0; i < 3; i++, at = end) {
+        unsigned long long number = strtoull(at, &end, 10);
+        if (end == at || number > UINT32_MAX)
+            return -1;
+        event[i] = (uint32_t)number;
+    }
+    return *end == '\n' || *end == 0 ? 1 : -1;
 }
 
 int main(int count, char **words) {
@@ -36,21 +52,23 @@ int main(int count, char **words) {
         return 2;
     }
     uint8_t *file = mapped(words[1], &length);
-    if (!file) {
-        perror(words[1]);
+    if (!file)
         return 1;
-    }
     uint64_t fitted = esdi_fit(&chain, file, length);
     if (fitted) {
         fprintf(stderr, "refused %u at %u\n", ESDI_ANSWER(fitted), (unsigned)ESDI_PLACE(fitted));
         return 1;
     }
-    unsigned kind, a, b, line = 0;
-    while (scanf("%u %u %u", &kind, &a, &b) == 3) {
-        uint32_t code = esdi_event(&chain, file, length, kind, a, b);
+    uint32_t event[3];
+    unsigned line = 0;
+    int more;
+    while ((more = next(event)) > 0) {
+        uint32_t code = esdi_event(&chain, file, length, event[0], event[1], event[2]);
         printf("%u %u %u %u\n", ++line, ESDI_ANSWER(code), ESDI_VALUE(code), esdi_lines(&chain));
     }
+    if (more < 0)
+        fprintf(stderr, "line %u isn't three numbers\n", line + 1);
     if (length)
         munmap(file, length);
-    return 0;
+    return more < 0;
 }

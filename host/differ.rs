@@ -299,7 +299,7 @@ impl Pair {
         if ours != theirs {
             return Err(format!("answer and value {:?}, the twin's {:?}", ours, theirs));
         }
-        let (lines, sum) = (esdi::lines(&mut self.record), twin::line_sum(&self.chain));
+        let (lines, sum) = (esdi::lines(&self.record), twin::line_sum(&self.chain));
         if lines != sum {
             return Err(format!("lines {}, the twin's {}", lines, sum));
         }

@@ -114,11 +114,11 @@ pub struct Chain {
 extern "C" {
     fn esdi_fit(chain: *mut Chain, file: *const u8, length: usize) -> u64;
     fn esdi_event(chain: *mut Chain, file: *mut u8, length: usize, kind: u32, a: u32, b: u32) -> u32;
-    fn esdi_lines(chain: *mut Chain) -> u8;
+    fn esdi_lines(chain: *const Chain) -> u8;
     fn esdi_word(chain: *mut Chain, slot: u32, word: u32) -> u64;
     fn esdi_packs(file: *const u8, length: usize) -> u64;
-    fn esdi_pack_at(file: *const u8, length: usize, slot: u32) -> Pack;
-    fn esdi_lay(part: *mut u8, length: usize, profile: Profile) -> u32;
+    fn esdi_pack_at(pack: *mut Pack, file: *const u8, length: usize, slot: u32);
+    fn esdi_lay(part: *mut u8, length: usize, profile: *const Profile) -> u32;
 }
 
 /// The empty chain.
@@ -138,7 +138,7 @@ pub fn event(chain: &mut Chain, file: &mut [u8], kind: u32, a: u32, b: u32) -> (
     (code as u8, (code >> 8) as u8)
 }
 
-pub fn lines(chain: &mut Chain) -> u8 {
+pub fn lines(chain: &Chain) -> u8 {
     unsafe { esdi_lines(chain) }
 }
 
@@ -154,12 +154,15 @@ pub fn packs(file: &[u8]) -> (u8, usize, usize) {
     (code as u8, (code >> 8 & 255) as usize, (code >> 32) as usize)
 }
 
+/// The pack into one that was full of ones: every field is to be written, zeros too.
 pub fn pack_at(file: &[u8], slot: u32) -> Pack {
-    unsafe { esdi_pack_at(file.as_ptr(), file.len(), slot) }
+    let mut pack: Pack = unsafe { std::mem::transmute([0xFFu8; std::mem::size_of::<Pack>()]) };
+    unsafe { esdi_pack_at(&mut pack, file.as_ptr(), file.len(), slot) };
+    pack
 }
 
 pub fn lay(profile: &Profile, part: &mut [u8]) -> u8 {
-    unsafe { esdi_lay(part.as_mut_ptr(), part.len(), *profile) as u8 }
+    unsafe { esdi_lay(part.as_mut_ptr(), part.len(), profile) as u8 }
 }
 
 pub fn profile_of(p: &twin::Profile) -> Profile {

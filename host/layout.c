@@ -1,4 +1,5 @@
-/* The header's record against the library's: every field lies where the library puts its mark, and nothing else is written. */
+/* The header's record against the library's: every field lies where the library puts its mark, nothing else is written,
+ * and the codes and bits that the header names are those that a drive goes through. */
 #include <stdio.h>
 #include <string.h>
 
@@ -68,10 +69,85 @@ static void state(int i) {
     STATE(transfer.acknowledge, 32);
 }
 
+static struct esdi_chain chain;
+static uint8_t file[4095 + 44];
+static const struct esdi_body *const body = &chain.states[0].body;
+
+/* A word at once to the drive in slot 1, its parity bit put to it; the response without its own. */
+static uint32_t sent(uint32_t word) {
+    uint32_t ones = 0;
+    for (uint32_t rest = word; rest; rest >>= 1)
+        ones += rest & 1;
+    return ESDI_RESPONSE(esdi_word(&chain, 1, word * 2 + (ones + 1) % 2)) >> 1;
+}
+
+#define IS(what, code)                                                                              \
+    do {                                                                                            \
+        unsigned long long got = (what), want = (code);                                             \
+        if (got != want && ++wrong)                                                                 \
+            printf("layout: %s is %llu, not %s, %llu\n", #what, got, #code, want);                  \
+    } while (0)
+
+static void fitted(void) {
+    const struct esdi_profile profile = {
+        .slot = 1,
+        .general = ESDI_GENERAL_DRIVE_HARD_SECTORED | ESDI_GENERAL_MOTOR_OPTION | ESDI_GENERAL_REMOVABLE |
+                   ESDI_GENERAL_RATE_TO_10_MHZ | ESDI_GENERAL_OFFSET_OPTION,
+        .write_protected = 1,
+        .shape = {.cylinders = 1, .heads = 1, .track = 4095, .sector = 512},
+        .times = {.start = 1},
+    };
+    IS(esdi_lay(file, sizeof file, &profile), ESDI_TAKEN);
+    IS(esdi_fit(&chain, file, sizeof file), ESDI_TAKEN);
+}
+
+static void words(void) {
+    IS(body->motor, ESDI_MOTOR_UP);
+    IS(sent(0x2000), ESDI_STATUS_POWER_ON | ESDI_STATUS_PROTECTED_REMOVABLE);
+    sent(0x5000);
+    IS(body->latched, 0);
+    sent(0x7200);
+    IS(body->offset, ESDI_OFFSET_PLUS);
+    sent(0x7300);
+    IS(body->offset, ESDI_OFFSET_MINUS);
+    sent(0x7000);
+    IS(body->offset, ESDI_OFFSET_NONE);
+    sent(0xF000);
+    IS(body->latched, ESDI_STATUS_INVALID_COMMAND);
+    IS(esdi_word(&chain, 1, 0), ESDI_FAULT);
+    IS(body->latched, ESDI_STATUS_INVALID_COMMAND | ESDI_STATUS_COMMAND_PARITY);
+    sent(0x5000);
+    sent(0x5200);
+    IS(body->motor, ESDI_MOTOR_STOPPED);
+    IS(sent(0x2000), ESDI_STATUS_MOTOR_STOPPED | ESDI_STATUS_PROTECTED_REMOVABLE);
+    sent(0x5300);
+    IS(body->motor, ESDI_MOTOR_STARTING);
+}
+
+static void events(void) {
+    const struct esdi_transfer *transfer = &chain.states[0].transfer;
+    IS(esdi_event(&chain, file, sizeof file, ESDI_PASS, 1, 0), ESDI_TAKEN);
+    for (uint32_t b = ESDI_CONDITION_WRITE_FAULT; b <= ESDI_CONDITION_MEDIUM_CHANGED; b++)
+        IS(esdi_event(&chain, file, sizeof file, ESDI_CONDITION, 1, b), ESDI_TAKEN);
+    IS(body->latched, ESDI_STATUS_WRITE_FAULT | ESDI_STATUS_SEEK_FAULT | ESDI_STATUS_MEDIUM_CHANGED);
+    sent(0x5000);
+    IS(esdi_event(&chain, file, sizeof file, ESDI_SELECT, 1, 0), ESDI_TAKEN);
+    IS(esdi_lines(&chain), ESDI_LINE_SELECTED | ESDI_LINE_READY | ESDI_LINE_COMPLETE);
+    IS(transfer->way, ESDI_WAY_NONE);
+    IS(esdi_event(&chain, file, sizeof file, ESDI_REQUEST, 1, 0), ESDI_TAKEN);
+    IS(esdi_lines(&chain), ESDI_LINE_SELECTED | ESDI_LINE_READY | ESDI_LINE_ACKNOWLEDGE);
+    IS(transfer->way, ESDI_WAY_TAKING);
+    IS(esdi_event(&chain, file, sizeof file, ESDI_SELECT, 0, 0), ESDI_FAULT);
+    IS(body->latched, ESDI_STATUS_INTERFACE_FAULT);
+}
+
 int main(void) {
+    fitted();
+    words();
+    events();
     memset(&room, 0xA5, sizeof room);
     esdi_marks(&room.chain);
-    for (int i = 0; i < 7; i++) {
+    for (int i = 0; i < ESDI_SLOTS; i++) {
         pack(i);
         state(i);
     }
@@ -91,6 +167,6 @@ int main(void) {
     /* no field is wider than four bytes: the record is aligned to four */
     if (_Alignof(struct esdi_chain) != 4 && ++wrong)
         printf("layout: alignment %zu\n", _Alignof(struct esdi_chain));
-    printf("layout: %zu bytes, aligned to %zu, %d wrong\n", sizeof(struct esdi_chain), _Alignof(struct esdi_chain), wrong);
+    printf("layout: %zu bytes, aligned to %zu, %d wrong\n", sizeof room.chain, _Alignof(struct esdi_chain), wrong);
     return wrong != 0;
 }

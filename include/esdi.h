@@ -1,8 +1,9 @@
 /* The command side of a replacement disk board: a chain of up to seven serial-mode ESDI drives on one control cable.
  *
  * Every function is proved: it takes any record, any file and any numbers, and says by a number what it refuses.
- * What C's own types say must hold: a pointer to a record points at one, and a file's pointer at as many bytes as
- * its length says (any pointer will do where the length is 0). A record and a file may not overlap.
+ * What C's own types say must hold: a pointer to a record, a pack or a profile points at one, and a file's pointer
+ * at as many bytes as its length says (any pointer will do where the length is 0). What one call is lent may not
+ * overlap.
  *
  * A record is plain data, without pointers. It may be copied, kept and compared field by field. All zeros is the
  * empty chain: no drive, all lines low, a file of length 0. Fields may be read at any time; a record that was written
@@ -43,28 +44,95 @@ enum esdi_answer {
     ESDI_ROOM = 37          /* too little room */
 };
 
-/* The kinds of events. */
+/* The kinds of events. Kinds 0 to 5 are the lines that the host drives, under their names in struct esdi_levels. */
 enum esdi_kind {
-    ESDI_SELECT = 0,     /* a: drive select code 0..7, 0 = none */
-    ESDI_HEADS = 1,      /* a: head lines 0..15 */
-    ESDI_WRITE_GATE = 2, /* a: level, as of the next three */
+    ESDI_SELECT = 0,       /* a: drive select code 0..7, 0 = none */
+    ESDI_HEADS = 1,        /* a: head lines 0..15 */
+    ESDI_WRITE_GATE = 2,   /* a: level, as of the next three */
     ESDI_READ_GATE = 3,
-    ESDI_DATA = 4,
+    ESDI_COMMAND_DATA = 4, /* the host's bits go this way, the drive's by ESDI_LINE_CONFIGURATION_STATUS */
     ESDI_REQUEST = 5,
-    ESDI_PASS = 6,       /* a: microseconds 0..65,535 */
-    ESDI_CELL = 7,       /* a: position in the track 0..65,535, b: byte */
-    ESDI_CONDITION = 8   /* a: slot 1..7, b: 1 write fault, 2 seek error, 3 medium changed */
+    ESDI_PASS = 6,         /* a: microseconds 0..65,535 */
+    ESDI_CELL = 7,         /* a: position in the track 0..65,535, b: byte */
+    ESDI_CONDITION = 8     /* a: slot 1..7, b: a condition */
 };
 
-/* The lines that esdi_lines adds up. */
+/* The conditions, b of ESDI_CONDITION. */
+enum esdi_condition {
+    ESDI_CONDITION_WRITE_FAULT = 1,
+    ESDI_CONDITION_SEEK_ERROR = 2,
+    ESDI_CONDITION_MEDIUM_CHANGED = 3 /* on a removable drive only */
+};
+
+/* The lines that the selected drive shows, as esdi_lines adds them up. */
 enum esdi_line {
     ESDI_LINE_SELECTED = 1,
     ESDI_LINE_READY = 2,
     ESDI_LINE_ACKNOWLEDGE = 4,
-    ESDI_LINE_DATA = 8,
+    ESDI_LINE_CONFIGURATION_STATUS = 8, /* a response's bits */
     ESDI_LINE_ATTENTION = 16,
     ESDI_LINE_COMPLETE = 32
 };
+
+/* The bits of the status word, which a drive responds to the word 2000h. Those up to 256 are latched: they stand in
+ * the field latched until the word 5000h clears them. The last three follow the drive. */
+enum esdi_status {
+    ESDI_STATUS_MEDIUM_CHANGED = 1,
+    ESDI_STATUS_WRITE_FAULT = 2,
+    ESDI_STATUS_WRITE_WITH_OFFSET = 8,
+    ESDI_STATUS_SEEK_FAULT = 16,
+    ESDI_STATUS_INVALID_COMMAND = 32,
+    ESDI_STATUS_INTERFACE_FAULT = 64,
+    ESDI_STATUS_COMMAND_PARITY = 128,
+    ESDI_STATUS_POWER_ON = 256,
+    ESDI_STATUS_MOTOR_STOPPED = 512,
+    ESDI_STATUS_PROTECTED_FIXED = 4096,
+    ESDI_STATUS_PROTECTED_REMOVABLE = 8192
+};
+
+/* The bits of a profile's general word. Of the three sectorings, of fixed and removable, and of the three transfer
+ * rates exactly one stands; slow heads exactly where head_switch is over 15; 4,096 and 32,768 never. Else the profile
+ * is refused with 33. */
+enum esdi_general {
+    ESDI_GENERAL_CONTROLLER_HARD_SECTORED = 1,
+    ESDI_GENERAL_DRIVE_HARD_SECTORED = 2,
+    ESDI_GENERAL_SOFT_SECTORED = 4,
+    ESDI_GENERAL_RLL = 8, /* not MFM */
+    ESDI_GENERAL_SLOW_HEADS = 16, /* head switch over 15 microseconds */
+    ESDI_GENERAL_MOTOR_OPTION = 32, /* words that stop and start the motor are valid */
+    ESDI_GENERAL_FIXED = 64,
+    ESDI_GENERAL_REMOVABLE = 128,
+    ESDI_GENERAL_RATE_TO_5_MHZ = 256,
+    ESDI_GENERAL_RATE_TO_10_MHZ = 512,
+    ESDI_GENERAL_RATE_OVER_10_MHZ = 1024,
+    ESDI_GENERAL_SPEED_TOLERANCE = 2048, /* over 0.5 in 100 */
+    ESDI_GENERAL_OFFSET_OPTION = 8192, /* words that set the track offset are valid */
+    ESDI_GENERAL_SPEED_TOLERANCE_GAP = 16384
+};
+
+/* The field offset, of the track. */
+enum esdi_offset {
+    ESDI_OFFSET_NONE = 0,
+    ESDI_OFFSET_PLUS = 1, /* +1 */
+    ESDI_OFFSET_MINUS = 2 /* -1 */
+};
+
+/* The field motor. */
+enum esdi_motor {
+    ESDI_MOTOR_STOPPED = 0,
+    ESDI_MOTOR_STARTING = 1,
+    ESDI_MOTOR_UP = 2
+};
+
+/* The field way: which way the bits of the open transfer go. */
+enum esdi_way {
+    ESDI_WAY_NONE = 0,      /* no transfer open */
+    ESDI_WAY_TAKING = 1,    /* a word's bits from the host */
+    ESDI_WAY_RESPONDING = 2 /* a response's bits to the host */
+};
+
+/* The slots of a chain, 1 to 7. */
+#define ESDI_SLOTS 7
 
 /* What a pack's trailer says of its shape. */
 struct esdi_shape {
@@ -76,13 +144,17 @@ struct esdi_shape {
 
 /* Microseconds. */
 struct esdi_times {
-    uint32_t settle, step, head_switch, recalibrate, start, diagnostic, offset;
+    uint32_t settle;                         /* up to 60,000 */
+    uint32_t step;                           /* up to 1,000 */
+    uint32_t head_switch;                    /* up to 60,000 */
+    uint32_t recalibrate, start, diagnostic; /* up to 30,000,000 each */
+    uint32_t offset;                         /* up to 60,000 */
 };
 
 struct esdi_profile {
     uint8_t slot; /* 1..7 */
     uint8_t vendor;
-    uint16_t general;
+    uint16_t general; /* a sum of esdi_general's */
     uint8_t gap, sync;
     uint8_t write_protected; /* 0 or 1 */
     struct esdi_shape shape;
@@ -100,12 +172,12 @@ struct esdi_pack {
 struct esdi_body {
     uint32_t busy, head_timer; /* microseconds left */
     uint16_t cylinder;
-    uint8_t offset; /* 0 none, 1 is +1, 2 is -1 */
+    uint8_t offset; /* an esdi_offset */
     uint8_t lost;   /* 1 where the position is lost */
-    uint16_t latched; /* the latched bits, at their places in the status word */
+    uint16_t latched; /* a sum of esdi_status's first eight */
     uint16_t sector;  /* the size now in force */
     uint8_t head;
-    uint8_t motor; /* 0 stopped, 1 starting, 2 up */
+    uint8_t motor; /* an esdi_motor */
     uint8_t reading, writing;
 };
 
@@ -113,7 +185,7 @@ struct esdi_transfer {
     uint32_t waiting;  /* microseconds since the last request edge */
     uint32_t bits;     /* the bits taken, the last one lowest */
     uint32_t response; /* seventeen bits, parity lowest */
-    uint8_t way;       /* 0 none open, 1 taking bits, 2 responding */
+    uint8_t way;       /* an esdi_way */
     uint8_t count;     /* bits taken, or put out */
     uint8_t acknowledge;
 };
@@ -130,11 +202,18 @@ struct esdi_levels {
 
 /* The chain record. Slot n is element n - 1. */
 struct esdi_chain {
-    struct esdi_pack packs[7];
-    struct esdi_state states[7];
+    struct esdi_pack packs[ESDI_SLOTS];
+    struct esdi_state states[ESDI_SLOTS];
     struct esdi_levels lines;
     uint32_t length; /* the file's */
 };
+
+/* A compiler that packs structs otherwise, or whose numbers are of other sizes, is found out here. */
+#ifdef __cplusplus
+static_assert(sizeof(struct esdi_chain) == 628, "the chain record doesn't lie in memory as the library's");
+#else
+_Static_assert(sizeof(struct esdi_chain) == 628, "the chain record doesn't lie in memory as the library's");
+#endif
 
 /* A code taken apart: the answer in the low byte, the value in the next, a place or a response in the high half. */
 #define ESDI_ANSWER(code) ((unsigned)((code) & 255))
@@ -154,8 +233,8 @@ uint64_t esdi_fit(struct esdi_chain *chain, const uint8_t *file, size_t length);
 uint32_t esdi_event(struct esdi_chain *chain, uint8_t *file, size_t length, uint32_t kind, uint32_t a, uint32_t b);
 
 /* What the selected drive shows, as a sum of the lines above; 0 where no fitted drive is selected. Of a malformed
- * record it is the sum that the selected slot's fields make. The record is left as it was. */
-uint8_t esdi_lines(struct esdi_chain *chain);
+ * record it is the sum that the selected slot's fields make. */
+uint8_t esdi_lines(const struct esdi_chain *chain);
 
 /* The plain word rules: a word of seventeen bits, word * 2 + parity, at once to the drive in a slot, 1 to 7.
  * ESDI_ANSWER is 0 taken, 5 a fault latched (bit 6 on a drive that reads, writes or isn't complete; bits 7, 5 and 4
@@ -167,14 +246,14 @@ uint64_t esdi_word(struct esdi_chain *chain, uint32_t slot, uint32_t word);
 /* The status of a pack file: ESDI_ANSWER 0 and ESDI_VALUE the number of packs; or 30 to 36 with ESDI_PLACE. */
 uint64_t esdi_packs(const uint8_t *file, size_t length);
 
-/* The pack in a slot of a pack file: its place and its fields. All zeros where the slot is empty or isn't 1 to 7, and
- * where the file is refused. */
-struct esdi_pack esdi_pack_at(const uint8_t *file, size_t length, uint32_t slot);
+/* Fills *pack with the pack in a slot of a pack file: its place and its fields. All zeros where the slot is empty or
+ * isn't 1 to 7, and where the file is refused. */
+void esdi_pack_at(struct esdi_pack *pack, const uint8_t *file, size_t length, uint32_t slot);
 
 /* Lays a pack at the start of a part of a file: a zeroed medium and its trailer. 0, or 33 a field of the profile, 36
  * longer than 2,147,483,647 bytes, 37 too little room, tried in that order; then not a byte is written. Bytes past
  * the pack stay. */
-uint32_t esdi_lay(uint8_t *part, size_t length, struct esdi_profile profile);
+uint32_t esdi_lay(uint8_t *part, size_t length, const struct esdi_profile *profile);
 
 /* Fills a record with marks, a number of its own in each field of a struct, by which host/layout.c sees that the
  * structs above lie in memory as the library's do. It is no chain. */

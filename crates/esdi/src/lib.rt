@@ -86,8 +86,8 @@ pub extern "C" fn esdi_word(c: &mut Chain, slot: u32, word: u32) -> u64
 
 // What the selected drive of the lent record shows.
 #[no_mangle]
-pub extern "C" fn esdi_lines(c: &mut Chain) -> u8
-    ensures { λ r. ⌜ (now (c .exit) ≡ now (c .entry)) × (r ≡ lineSum (now (c .entry))) ⌝ }
+pub extern "C" fn esdi_lines(c: &Chain) -> u8
+    ensures { λ r. ⌜ r ≡ lineSum (now (c .entry)) ⌝ }
 {
     let old = *c;
     chain_decide::shown::line_sum(old)
@@ -109,18 +109,19 @@ pub extern "C" fn esdi_packs(file: &[u8]) -> u64
     c_pack::packs::packs(file)
 }
 
-// The pack in a slot of a pack file.
+// The pack in a slot of a pack file, into the lent one.
 #[no_mangle]
-pub extern "C" fn esdi_pack_at(file: &[u8], slot: u32) -> Pack
-    ensures { λ r. ⌜ r ≡ packAtSlot (now (file .entry)) slot ⌝ }
+pub extern "C" fn esdi_pack_at<'a, 'b>(pack: &'a mut Pack, file: &'b [u8], slot: u32)
+    ensures { λ _. ⌜ now (pack .exit) ≡ packAtSlot (now (file .entry)) slot ⌝ }
 {
-    c_pack::packs::pack_at(file, slot)
+    *pack = c_pack::packs::pack_at(file, slot);
 }
 
-// A pack laid at the start of the lent part.
+// A pack of the lent profile laid at the start of the lent part.
 #[no_mangle]
-pub extern "C" fn esdi_lay(part: &mut [u8], p: Profile) -> u32
-    ensures { λ r. ⌜ (r ≡ laidNumber (laidAnswer p (length (now (part .entry))))) × (now (part .exit) ≡ laidBytes p (now (part .entry))) ⌝ }
+pub extern "C" fn esdi_lay<'a, 'b>(part: &'a mut [u8], p: &'b Profile) -> u32
+    ensures { λ r. ⌜ (r ≡ laidNumber (laidAnswer (now (p .entry)) (length (now (part .entry))))) × (now (part .exit) ≡ laidBytes (now (p .entry)) (now (part .entry))) ⌝ }
 {
-    c_pack::packs::laid(p, part)
+    let profile = *p;
+    c_pack::packs::laid(profile, part)
 }

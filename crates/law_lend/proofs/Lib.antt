@@ -2,3 +2,5 @@ pub mod Event
 pub mod Word
 pub mod Fit
 pub mod Alone
+pub mod Pack
+pub mod Lay

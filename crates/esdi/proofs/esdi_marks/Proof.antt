@@ -88,7 +88,7 @@ module _ {M : Type 1} (𝓤 : URA M) (H : Heap 𝓤) (A : Atoms 𝓤) (W : Given
     walk : ent 𝓤 (onEntry 𝓤 H A lent.signature (κ, tt) (q, tt) x at) (WpFn 𝓤 H C Λ code.function (vptr b o ∷ []) Post)
     walk =
         lend.fills 𝓤 H A W (lone (T.the-row .mir)) (T.the-row .written .ty) Chain (T.the-row .written) (T.the-row .reaches) (T.the-row .own) (T.the-row .exit) (T.the-row .coded) mach
-        (LL.tells T.the-type T′.the-laws) (λ x′ v is. LL.lawful T.the-type T′.the-laws 𝓤 H A W .typed x′ (v ∷ []) is .0) (LL.makes T.the-type T′.the-plain 𝓤 H A)
+        (LL.tells T.the-type T′.the-laws) (λ x′ v is. LL.lawful T.the-type T′.the-laws 𝓤 H A W .typed x′ (v ∷ []) is .0)
         κ q b o γ h C Λ fm #plain Post Ens Said (via 𝓤 (Plain 𝓤 H A at-mem run .pre to-plain) goes-plain (known-plain to-plain)) plain-is exits
 
 module _ {M : Type 1} (𝓤 : URA M) (H : Heap 𝓤) (A : Atoms 𝓤) (W : Given 𝓤 H A) (at-mem : Memory → SProp 𝓤) (run : Routine → Fun 𝓤) where
