@@ -14,6 +14,7 @@ use Rattle.event.specs.Answer.{answerNumber}
 use Rattle.chain_record.specs.declared.Chain.{Chain}
 use Rattle.chain_decision.specs.declared.Change.the-variants as change
 use Rattle.chain_decision.specs.declared.Deed.the-variants as deed
+use Rattle.chain_decision.specs.declared.Sent.the-variants as sent
 use Rattle.chain_decision.specs.Decision.{outcomeAnswer}
 use Rattle.chain_record.specs.Record.{slotPack, slotState}
 use Rattle.pack_read.specs.Packs.{fittedB}
@@ -33,7 +34,7 @@ wordCode answer (telling.Word response) = answerNumber answer + secondByte + res
 
 -- the record with the state of a slot in place of what it was
 abbrev pub stateIn : Chain → ℕ → State → Chain
-stateIn c slot s = applied c (record { lines = c .lines; change = change.One slot s; deed = deed.Say Taken })
+stateIn c slot s = applied c (record { lines = c .lines; change = change.One slot s; word = sent.Nothing; deed = deed.Say Taken })
 
 -- "5 a fault rule applied, even if its bit stood already", else "0 taken"
 unfoldable pub sentOf : Chain → Profile → State → ℕ → ℕ → Coded

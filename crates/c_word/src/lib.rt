@@ -3,6 +3,7 @@ use c_pack::Coded;
 use chain_decision::Change;
 use chain_decision::Decision;
 use chain_decision::Deed;
+use chain_decision::Sent;
 use chain_record::Chain;
 use chain_record::slots;
 use drive_record::State;
@@ -40,6 +41,7 @@ fn state_in(c: Chain, slot: u8, s: State) -> Chain
     let d = Decision {
         lines,
         change: Change::One(slot, s),
+        word: Sent::Nothing,
         deed: Deed::Say(Answer::Taken),
     };
     chain_apply::apply(c, d)

@@ -19,6 +19,7 @@ use Rattle.lines.specs.declared.Lines.{Lines}
 use Rattle.chain_record.specs.declared.Chain.{Chain}
 use Rattle.chain_decision.specs.declared.Change.the-variants as change
 use Rattle.chain_decision.specs.declared.Deed.the-variants.{Say, Read, Write}
+use Rattle.chain_decision.specs.declared.Sent.the-variants.{Nothing}
 use Rattle.chain_decision.specs.declared.Decision.{Decision}
 use Rattle.chain_record.specs.declared.Seen.{Seen}
 use Rattle.chain_record.specs.Record.{slotPack, slotState, lookOf}
@@ -28,10 +29,10 @@ use Rattle.lines.specs.Lines.{with-select, with-heads, with-writegate, with-rea
 use Rattle.chain_lines.specs.Signals.{signalOf}
 use Rattle.chain_select.specs.Select.{leftAlone, bothOf, movedOf}
 use Rattle.chain_others.specs.Passing.{passEvent}
-use Rattle.chain_others.specs.Cell.{cellPlace, touching, cellEvent}
+use Rattle.chain_others.specs.Cell.{cellSpot, touching, cellEvent}
 use Rattle.chain_others.specs.Condition.{fixedChange, conditionAt}
 use Rattle.chain_decide.specs.Decide.{selectEvent, conditionEvent, decideOf}
-use Rattle.chain_decide.specs.Levels.{linesAfter, movesB, ruleOf, askedB}
+use Rattle.chain_decide.specs.Levels.{linesAfter, movesB, ruleOf, wordMet, askedB}
 
 -- kinds 0 to 5
 abbrev pub lineB : Event → Bool
@@ -64,10 +65,11 @@ module _ (c : Chain) (P : Event → Decision → Type 0) where
     pub alone : (e : Event) → askedB e ≡ true → d .selected ≡ false → fittedB (slotPack (c .packs) (linesAfter e l .select)) ≡ false
         → P e (sayOf (linesAfter e l) Unselected)
     -- the selected drive meets a rule
-    pub met : (e : Event) → d .selected ≡ true → movesB e l ≡ true → linesAfter e l .select ≡ l .select → P e (ruledOf (linesAfter e l) (ruleOf d l e))
+    pub met : (e : Event) → d .selected ≡ true → movesB e l ≡ true → linesAfter e l .select ≡ l .select
+        → P e (ruledOf (linesAfter e l) (wordMet d e) (ruleOf d l e))
     -- select
     pub enters : (slot : ℕ) → d .selected ≡ false → fittedB (slotPack (c .packs) slot) ≡ true → movesB (Select slot) l ≡ true
-        → P (Select slot) (ruledOf (with-select slot l) (enteredOf c slot))
+        → P (Select slot) (ruledOf (with-select slot l) Nothing (enteredOf c slot))
     pub leaves : (slot : ℕ) → d .selected ≡ true → fittedB (slotPack (c .packs) slot) ≡ false → movesB (Select slot) l ≡ true
         → P (Select slot) (leftAlone (l .select) (leftOf (d .state)) (with-select slot l))
     pub swaps : (slot : ℕ) → d .selected ≡ true → fittedB (slotPack (c .packs) slot) ≡ true → movesB (Select slot) l ≡ true
@@ -77,9 +79,9 @@ module _ (c : Chain) (P : Event → Decision → Type 0) where
     -- cells
     pub past : (position : Position) (byte : ℕ) → d .selected ≡ true → P (Cell position byte) (sayOf l PastTrack)
     pub writes : (position : Position) (byte : ℕ) → d .selected ≡ true → position .0 < d .profile .shape .track .0 → d .state .body .writing ≡ 1
-        → P (Cell position byte) (touching l (Write (cellPlace d position) byte))
+        → P (Cell position byte) (touching l (Write (cellSpot d l position) byte))
     pub reads : (position : Position) (byte : ℕ) → d .selected ≡ true → position .0 < d .profile .shape .track .0 → d .state .body .reading ≡ 1
-        → eqb (d .state .body .writing) 1 ≡ false → P (Cell position byte) (touching l (Read (cellPlace d position)))
+        → eqb (d .state .body .writing) 1 ≡ false → P (Cell position byte) (touching l (Read (cellSpot d l position)))
     pub idle : (position : Position) (byte : ℕ) → d .selected ≡ true → eqb (d .state .body .writing) 1 ≡ false → eqb (d .state .body .reading) 1 ≡ false
         → P (Cell position byte) (sayOf l Inhibited)
     -- conditions
@@ -89,6 +91,7 @@ module _ (c : Chain) (P : Event → Decision → Type 0) where
         (record {
           lines = l;
           change = change.One slot (stateOf (faults.conditionOf which (slotState (c .states) slot .body)) (slotState (c .states) slot .transfer));
+          word = Nothing;
           deed = Say Taken;
         })
 
@@ -110,7 +113,7 @@ module _ (c : Chain) (P : Event → Decision → Type 0) where
 
     -- kinds 1, 2, 3 and 5
     signal : (e : Event) (t : Bool) → lineB e ≡ true → askedB e ≡ true → linesAfter e l .select ≡ l .select → movesB e l ≡ not t
-        → (t ≡ true → linesAfter e l ≡ l) → P e (signalOf d l (linesAfter e l) t (ruleOf d l e))
+        → (t ≡ true → linesAfter e l ≡ l) → P e (signalOf d l (linesAfter e l) t (wordMet d e) (ruleOf d l e))
     unfolding signalOf
     signal e t b a q m h =
         by-test (P e) t _ _ (λ s. same e b a (rw (m, s)) (h s))

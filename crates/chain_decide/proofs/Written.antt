@@ -4,19 +4,17 @@ use mathlib.Core.Bool.{true, not}
 use mathlib.Core.Logic.{inl}
 use Prim.Native.Nat.{ℕ, _+_, _<_}
 use Rattle.counts.specs.declared.Position.{Position}
-use Rattle.counts.proofs.Choice.{never}
 use Rattle.pack_profile.specs.Profile.{mediumOf}
 use Rattle.drive_record.specs.Status.{attentionB}
 use Rattle.drive_gates.proofs.MayReadOrWrite.{Usable, usable}
-use Rattle.event.specs.declared.Answer.{Answer}
 use Rattle.event.specs.declared.Event.{Event}
 use Rattle.drive_cable.proofs.OnCable.{writes}
 use Rattle.chain_record.specs.declared.Chain.{Chain}
-use Rattle.chain_decision.specs.declared.Deed.the-variants.{Say, Write}
 use Rattle.chain_decision.specs.declared.Decision.{Decision}
-use Rattle.chain_record.specs.Record.{lookOf}
+use Rattle.chain_decision.specs.Deeds.{spotPlace, BytePut, putsOf, Every}
+use Rattle.chain_record.specs.Record.{slotPack, lookOf}
 use Rattle.chain_others.specs.Passing.{passEvent}
-use Rattle.chain_others.specs.Cell.{cellPlace}
+use Rattle.chain_others.specs.Cell.{cellSpot}
 use Rattle.chain_decide.specs.Decide.{decideOf}
 use Rattle.chain_sound.specs.SoundChain.{chainSoundB}
 use Rattle.chain_sound.proofs.SoundSlots.{chosen, cell-inside}
@@ -31,18 +29,15 @@ pub record Written (c : Chain) (place : ℕ) : Type 0 where
   pub free : lookOf c .profile .protected ≡ 0
   pub position : Position
   pub there : position .0 < lookOf c .profile .shape .track .0
-  pub is : place ≡ cellPlace (lookOf c) position
-  pub inside : place < lookOf c .place .0 + mediumOf (lookOf c .profile .shape)
+  pub is : place ≡ spotPlace (c .packs) (cellSpot (lookOf c) (c .lines) position)
+  pub inside : place < slotPack (c .packs) (c .lines .select) .place .0 + mediumOf (lookOf c .profile .shape)
 
 module _ (c : Chain) (h : chainSoundB c ≡ true) where
   abbrev Only : Event → Decision → Type 0
-  Only e d = (place byte : ℕ) → d .deed ≡ Write place byte → Written c place
-
-  says : (a : Answer) (place byte : ℕ) → Say a ≡ Write place byte → Written c place
-  says a place byte w = absurd (never (cc))
+  Only e d = Every (λ (p : BytePut). Written c (p .place)) (putsOf (c .packs) (d .deed))
 
   written : (position : Position) → lookOf c .selected ≡ true → position .0 < lookOf c .profile .shape .track .0 → lookOf c .state .body .writing ≡ 1
-      → Written c (cellPlace (lookOf c) position)
+      → Written c (spotPlace (c .packs) (cellSpot (lookOf c) (c .lines) position))
   written position on t w =
       let d = chosen c h on .drive in
       let g = writes _ _ _ (d .writing) w in
@@ -58,28 +53,25 @@ module _ (c : Chain) (h : chainSoundB c ≡ true) where
         inside = cell-inside c position h on t (inl w);
       }
 
-  cell : (position : Position) (byte : ℕ) → Written c (cellPlace (lookOf c) position)
-      → (place b : ℕ) → Write (cellPlace (lookOf c) position) byte ≡ Write place b → Written c place
-  cell position byte g place b k = let same : cellPlace (lookOf c) position ≡ place = cc in rw same at g
-
   cases : Cases c Only
   unfolding passEvent
   cases = record {
-    still = λ e b on m q. says _;
-    level = λ v on. says _;
-    alone = λ e a off n. says _;
-    met = λ e on m q. says _;
-    enters = λ slot off f m. says _;
-    leaves = λ slot on n m. says _;
-    swaps = λ slot on f m. says _;
-    passes = λ us. says _;
-    past = λ position byte on. says _;
-    writes = λ position byte on t w. cell position byte (written position on t w);
-    reads = λ position byte on t r w place b k. absurd (never (cc));
-    idle = λ position byte on w r. says _;
-    inapplicable = λ slot which. says _;
-    condition = λ slot which f. says _;
+    still = λ e b on m q. tt;
+    level = λ v on. tt;
+    alone = λ e a off n. tt;
+    met = λ e on m q. tt;
+    enters = λ slot off f m. tt;
+    leaves = λ slot on n m. tt;
+    swaps = λ slot on f m. tt;
+    passes = λ us. tt;
+    past = λ position byte on. tt;
+    writes = λ position byte on t w. (written position on t w, tt);
+    reads = λ position byte on t r w. tt;
+    idle = λ position byte on w r. tt;
+    inapplicable = λ slot which. tt;
+    condition = λ slot which f. tt;
   }
 
-  pub written-only : (e : Event) (place byte : ℕ) → decideOf c e .deed ≡ Write place byte → Written c place
+  -- every byte put
+  pub written-only : (e : Event) → Every (λ (p : BytePut). Written c (p .place)) (putsOf (c .packs) (decideOf c e .deed))
   written-only = walk c Only cases

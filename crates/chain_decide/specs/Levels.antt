@@ -7,8 +7,10 @@ use Rattle.event.specs.declared.Event.{Event}
 use Rattle.event.specs.declared.Event.the-variants.{Select, Heads, WriteGate, ReadGate, Data, Request, Pass, Cell, Condition}
 use Rattle.lines.specs.declared.Lines.{Lines}
 use Rattle.chain_record.specs.declared.Seen.{Seen}
+use Rattle.chain_decision.specs.declared.Sent.{Sent}
+use Rattle.chain_decision.specs.declared.Sent.the-variants.{Nothing}
 use Rattle.chain_decision.specs.Decision.{ruledDone}
-use Rattle.chain_lines.specs.Signals.{writeRule, readRule, requestRule}
+use Rattle.chain_lines.specs.Signals.{writeRule, readRule, wordSent, requestRule}
 use Rattle.lines.specs.Lines.{with-select, with-heads, with-writegate, with-readgate, with-command, with-request}
 
 -- "line levels taken"
@@ -46,6 +48,18 @@ ruleOf d l (Select slot) = ruledDone (d .state)
 ruleOf d l (Pass us) = ruledDone (d .state)
 ruleOf d l (Cell position byte) = ruledDone (d .state)
 ruleOf d l (Condition slot which) = ruledDone (d .state)
+
+-- the word that it then carries out: request's only
+abbrev pub wordMet : Seen → Event → Sent
+wordMet d (Request level) = wordSent d level
+wordMet d (Heads h) = Nothing
+wordMet d (WriteGate level) = Nothing
+wordMet d (ReadGate level) = Nothing
+wordMet d (Data level) = Nothing
+wordMet d (Select slot) = Nothing
+wordMet d (Pass us) = Nothing
+wordMet d (Cell position byte) = Nothing
+wordMet d (Condition slot which) = Nothing
 
 -- "kinds 0 to 5 or 7"
 abbrev pub askedB : Event → Bool

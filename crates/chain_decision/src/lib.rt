@@ -1,5 +1,8 @@
-// A decision, what an event does before anything is done: the lines, the states that change, and what is answered or touched.
+// A decision, what an event does before anything is done: the lines, the states that change, the word carried out, and what is answered or touched.
+use counts::Cylinder;
+use counts::Head;
 use counts::Micros;
+use counts::Position;
 use drive_record::Outcome;
 use drive_record::Ruled;
 use drive_record::State;
@@ -16,17 +19,32 @@ pub enum Change {
     Pass(Micros),
 }
 
-// What is answered at once, or which byte of the file is read or written.
+// A cell of the chain: a byte of the medium of a slot's pack.
+pub struct Spot {
+    pub slot: u8,
+    pub cylinder: Cylinder,
+    pub head: Head,
+    pub position: Position,
+}
+
+// What is answered at once, or which cell is read or written.
 pub enum Deed {
     Say(Answer),
-    Read(usize),
-    Write(usize, u8),
+    Read(Spot),
+    Write(Spot, u8),
+}
+
+// The word that the selected drive carries out, if it does.
+pub enum Sent {
+    Nothing,
+    Word(u32),
 }
 
 // What an event does, before anything is done.
 pub struct Decision {
     pub lines: Lines,
     pub change: Change,
+    pub word: Sent,
     pub deed: Deed,
 }
 
@@ -47,6 +65,7 @@ pub fn say(l: Lines, a: Answer) -> Decision
     Decision {
         lines: l,
         change: Change::Nothing,
+        word: Sent::Nothing,
         deed: Deed::Say(a),
     }
 }
@@ -61,15 +80,16 @@ pub fn heard(l: Lines, on: bool) -> Decision
     say(l, Answer::Unselected)
 }
 
-// A rule was applied to the selected drive.
-pub fn ruled(l: Lines, r: Ruled) -> Decision
-    ensures { λ d. ⌜ d ≡ ruledOf l r ⌝ }
+// A rule was applied to the selected drive, and a word carried out, if one was.
+pub fn ruled(l: Lines, word: Sent, r: Ruled) -> Decision
+    ensures { λ d. ⌜ d ≡ ruledOf l word r ⌝ }
 {
     let state = r.state;
     let outcome = r.outcome;
     Decision {
         lines: l,
         change: Change::One(l.select, state),
+        word,
         deed: Deed::Say(answer_of(outcome)),
     }
 }

@@ -15,17 +15,17 @@ use Rattle.chain_decide.proofs.Touching.{touches-inside}
 use Rattle.chain_judge.specs.Judge.{allowedOf, decodedOf, judgedOf}
 
 module _ (c : Chain) (long : ℕ) where
-  allowed-by : (e : Event) (s n : Bool) → chainSoundB c ≡ s → eqb long (c .length .0) ≡ n → Fits long (allowedOf c long e .deed)
+  allowed-by : (e : Event) (s n : Bool) → chainSoundB c ≡ s → eqb long (c .length .0) ≡ n → Fits (c .packs) long (allowedOf c long e .deed)
   unfolding allowedOf
-  allowed-by e false n p q = rw p tt
-  allowed-by e true false p q = rw (p, q) tt
+  allowed-by e false n p q = rw p (tt, tt)
+  allowed-by e true false p q = rw (p, q) (tt, tt)
   allowed-by e true true p q = rw (p, q, eqb-true long (c .length .0) q) (touches-inside c e p)
 
-  decoded : (d : Decoded) → Fits long (decodedOf c long d .deed)
+  decoded : (d : Decoded) → Fits (c .packs) long (decodedOf c long d .deed)
   decoded (Is e) = allowed-by e _ _ refl refl
-  decoded Unknown = tt
-  decoded Range = tt
+  decoded Unknown = (tt, tt)
+  decoded Range = (tt, tt)
 
-  pub judged-fits : (kind a b : ℕ) → Fits long (judgedOf c long kind a b .deed)
+  pub judged-fits : (kind a b : ℕ) → Fits (c .packs) long (judgedOf c long kind a b .deed)
   unfolding judgedOf
   judged-fits kind a b = decoded (decodeOf kind a b)

@@ -4,33 +4,26 @@ use chain_decision::Decision;
 use chain_record::Chain;
 use event::Answer;
 use event::Decoded;
-use event::Event;
 ghost use mathlib.Core.Path.{_≡_};
-ghost use Rattle.chain_judge.specs.Judge.{allowedOf, judgedOf};
-
-// A malformed record, or a file of another length, is refused.
-fn allowed(c: Chain, long: usize, e: Event) -> Decision
-    ensures { λ r. ⌜ r ≡ allowedOf c long e ⌝ }
-{
-    let lines = c.lines;
-    if !chain_sound::is_sound(c) {
-        return chain_decision::say(lines, Answer::Malformed);
-    }
-    if long != c.length.0 as usize {
-        return chain_decision::say(lines, Answer::WrongLength);
-    }
-    decide::decide(c, e)
-}
+ghost use Rattle.chain_judge.specs.Judge.{judgedOf};
 
 // Refusals 20 to 25 in their order, else what the event decides.
 pub fn judge(c: Chain, long: usize, kind: u32, a: u32, b: u32) -> Decision
     ensures { λ r. ⌜ r ≡ judgedOf c long kind a b ⌝ }
 {
-    let l = c.lines;
+    let lines = c.lines;
     let decoded = event::decode::decode(kind, a, b);
     match decoded {
-        Decoded::Is(e) => allowed(c, long, e),
-        Decoded::Unknown => chain_decision::say(l, Answer::UnknownKind),
-        Decoded::Range => chain_decision::say(l, Answer::OutOfRange),
+        Decoded::Unknown => chain_decision::say(lines, Answer::UnknownKind),
+        Decoded::Range => chain_decision::say(lines, Answer::OutOfRange),
+        Decoded::Is(e) => {
+            if !chain_sound::is_sound(c) {
+                return chain_decision::say(lines, Answer::Malformed);
+            }
+            if long != c.length.0 as usize {
+                return chain_decision::say(lines, Answer::WrongLength);
+            }
+            decide::decide(c, e)
+        }
     }
 }

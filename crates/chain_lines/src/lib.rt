@@ -1,5 +1,6 @@
 // Kinds 1 to 5 at the selected drive: the head lines, the gates, the data line and transfer request.
 use chain_decision::Decision;
+use chain_decision::Sent;
 use chain_decision::done;
 use chain_decision::heard;
 use chain_decision::ruled;
@@ -8,13 +9,14 @@ use counts::Head;
 use drive_cable::request;
 use drive_record::Ruled;
 use drive_rules::heads;
+use handshake::Fallen;
 use lines::Lines;
 ghost use mathlib.Core.Path.{_≡_};
-ghost use Rattle.chain_lines.specs.Signals.{signalOf, headsEvent, writeRule, writeGateEvent, readRule, readGateEvent, dataEvent, requestRule, requestEvent};
+ghost use Rattle.chain_lines.specs.Signals.{signalOf, headsEvent, writeRule, writeGateEvent, readRule, readGateEvent, dataEvent, carriedWord, requestEvent};
 
-// A line is set, from l to m; where that moves it, the selected drive's rule gives r.
-fn signal(d: Seen, l: Lines, m: Lines, same: bool, r: Ruled) -> Decision
-    ensures { λ x. ⌜ x ≡ signalOf d l m same r ⌝ }
+// A line is set, from l to m; where that moves it, the selected drive's rule gives r, with the word carried out.
+fn signal(d: Seen, l: Lines, m: Lines, same: bool, word: Sent, r: Ruled) -> Decision
+    ensures { λ x. ⌜ x ≡ signalOf d l m same word r ⌝ }
 {
     if same {
         return heard(l, d.selected);
@@ -22,7 +24,7 @@ fn signal(d: Seen, l: Lines, m: Lines, same: bool, r: Ruled) -> Decision
     if !d.selected {
         return heard(m, false);
     }
-    ruled(m, r)
+    ruled(m, word, r)
 }
 
 pub fn head_lines(d: Seen, l: Lines, h: Head) -> Decision
@@ -32,7 +34,8 @@ pub fn head_lines(d: Seen, l: Lines, h: Head) -> Decision
     m.heads = h;
     let p = d.profile;
     let s = d.state;
-    signal(d, l, m, l.heads.0 == h.0, heads::meets(p, s, h))
+    let same = l.heads.0 == h.0;
+    signal(d, l, m, same, Sent::Nothing, heads::meets(p, s, h))
 }
 
 fn write_rule(d: Seen, l: Lines, level: u8) -> Ruled
@@ -51,7 +54,8 @@ pub fn write_gate(d: Seen, l: Lines, level: u8) -> Decision
 {
     let mut m = l;
     m.writegate = level;
-    signal(d, l, m, l.writegate == level, write_rule(d, l, level))
+    let same = l.writegate == level;
+    signal(d, l, m, same, Sent::Nothing, write_rule(d, l, level))
 }
 
 fn read_rule(d: Seen, l: Lines, level: u8) -> Ruled
@@ -70,7 +74,8 @@ pub fn read_gate(d: Seen, l: Lines, level: u8) -> Decision
 {
     let mut m = l;
     m.readgate = level;
-    signal(d, l, m, l.readgate == level, read_rule(d, l, level))
+    let same = l.readgate == level;
+    signal(d, l, m, same, Sent::Nothing, read_rule(d, l, level))
 }
 
 pub fn data(d: Seen, l: Lines, level: u8) -> Decision
@@ -81,15 +86,14 @@ pub fn data(d: Seen, l: Lines, level: u8) -> Decision
     heard(m, d.selected)
 }
 
-fn request_rule(d: Seen, l: Lines, level: u8) -> Ruled
-    ensures { λ r. ⌜ r ≡ requestRule d l level ⌝ }
+// The word that a fall hands over to be carried out.
+fn carried_word(fallen: Fallen) -> Sent
+    ensures { λ r. ⌜ r ≡ carriedWord fallen ⌝ }
 {
-    let p = d.profile;
-    let s = d.state;
-    if level == 1 {
-        return request::rises(s, l);
+    match fallen {
+        Fallen::Keep(t) => Sent::Nothing,
+        Fallen::Carry(n) => Sent::Word(n),
     }
-    request::falls(p, s)
 }
 
 pub fn transfer_request(d: Seen, l: Lines, level: u8) -> Decision
@@ -97,5 +101,13 @@ pub fn transfer_request(d: Seen, l: Lines, level: u8) -> Decision
 {
     let mut m = l;
     m.request = level;
-    signal(d, l, m, l.request == level, request_rule(d, l, level))
+    let p = d.profile;
+    let s = d.state;
+    let t = d.state.transfer;
+    let same = l.request == level;
+    if level == 1 {
+        return signal(d, l, m, same, Sent::Nothing, request::rises(s, l));
+    }
+    let fallen = handshake::fall(t);
+    signal(d, l, m, same, carried_word(fallen), request::falls(p, s))
 }

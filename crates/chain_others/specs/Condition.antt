@@ -12,6 +12,7 @@ use Rattle.event.specs.declared.Answer.the-variants.{Taken, Inapplicable}
 use Rattle.lines.specs.declared.Lines.{Lines}
 use Rattle.chain_decision.specs.declared.Change.the-variants as change
 use Rattle.chain_decision.specs.declared.Deed.the-variants as deed
+use Rattle.chain_decision.specs.declared.Sent.the-variants as sent
 use Rattle.chain_decision.specs.declared.Decision.{Decision}
 use Rattle.chain_decision.specs.Decision.{sayOf}
 use Rattle.pack_read.specs.Packs.{fittedB}
@@ -25,4 +26,4 @@ unfoldable pub conditionAt : Lines → Pack → State → ℕ → ℕ → Decisi
 conditionAt l p s slot which =
     if not (fittedB p) then sayOf l Inapplicable
     else if fixedChange p which then sayOf l Inapplicable
-    else record { lines = l; change = change.One slot (stateOf (faults.conditionOf which (s .body)) (s .transfer)); deed = deed.Say Taken }
+    else record { lines = l; change = change.One slot (stateOf (faults.conditionOf which (s .body)) (s .transfer)); word = sent.Nothing; deed = deed.Say Taken }

@@ -1,21 +1,28 @@
-// Kind 7: a data cell, and the byte of the file that it meets.
+// Kind 7: a data cell.
 use chain_decision::Change;
 use chain_decision::Decision;
 use chain_decision::Deed;
+use chain_decision::Sent;
+use chain_decision::Spot;
 use chain_record::Seen;
 use counts::Position;
-use drive_gates::cell;
 use event::Answer;
 use lines::Lines;
 ghost use mathlib.Core.Path.{_≡_};
-ghost use Rattle.chain_others.specs.Cell.{cellPlace, cellEvent};
+ghost use Rattle.chain_others.specs.Cell.{cellSpot, cellEvent};
 
-fn place_of(d: Seen, position: Position) -> usize
-    ensures { λ r. ⌜ r ≡ cellPlace d position ⌝ }
+// The cell under the selected drive's head.
+fn spot(d: Seen, l: Lines, position: Position) -> Spot
+    ensures { λ r. ⌜ r ≡ cellSpot d l position ⌝ }
 {
-    let p = d.profile;
-    let b = d.state.body;
-    d.place.0 as usize + cell::place(p, b, position)
+    let cylinder = d.state.body.arm.cylinder;
+    let head = d.state.body.head;
+    Spot {
+        slot: l.select,
+        cylinder,
+        head,
+        position,
+    }
 }
 
 pub fn data_cell(d: Seen, l: Lines, position: Position, byte: u8) -> Decision
@@ -31,14 +38,16 @@ pub fn data_cell(d: Seen, l: Lines, position: Position, byte: u8) -> Decision
         return Decision {
             lines: l,
             change: Change::Nothing,
-            deed: Deed::Write(place_of(d, position), byte),
+            word: Sent::Nothing,
+            deed: Deed::Write(spot(d, l, position), byte),
         };
     }
     if d.state.body.reading == 1 {
         return Decision {
             lines: l,
             change: Change::Nothing,
-            deed: Deed::Read(place_of(d, position)),
+            word: Sent::Nothing,
+            deed: Deed::Read(spot(d, l, position)),
         };
     }
     chain_decision::say(l, Answer::Inhibited)

@@ -2,6 +2,7 @@
 use chain_decision::Change;
 use chain_decision::Decision;
 use chain_decision::Deed;
+use chain_decision::Sent;
 use drive_record::State;
 use drive_record::faults;
 use event::Answer;
@@ -33,6 +34,7 @@ pub fn condition_at(l: Lines, p: Pack, s: State, slot: u8, which: u8) -> Decisio
     Decision {
         lines: l,
         change: Change::One(slot, State { body, transfer }),
+        word: Sent::Nothing,
         deed: Deed::Say(Answer::Taken),
     }
 }

@@ -2,6 +2,7 @@
 use chain_decision::Change;
 use chain_decision::Decision;
 use chain_decision::Deed;
+use chain_decision::Sent;
 use chain_record::Seen;
 use counts::Micros;
 use event::Answer;
@@ -18,12 +19,14 @@ pub fn pass(d: Seen, l: Lines, us: Micros) -> Decision
         return Decision {
             lines: l,
             change: Change::Pass(us),
+            word: Sent::Nothing,
             deed: Deed::Say(Answer::Fault),
         };
     }
     Decision {
         lines: l,
         change: Change::Pass(us),
+        word: Sent::Nothing,
         deed: Deed::Say(Answer::Taken),
     }
 }

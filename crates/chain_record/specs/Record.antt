@@ -28,7 +28,6 @@ slotState states slot = if slotB slot then getD states (slot - 1) blankState els
 unfoldable pub lookOf : Chain → Seen
 lookOf c = record {
   selected = fittedB (slotPack (c .packs) (c .lines .select));
-  place = slotPack (c .packs) (c .lines .select) .place;
   profile = slotPack (c .packs) (c .lines .select) .profile;
   state = slotState (c .states) (c .lines .select);
 }

@@ -19,7 +19,6 @@ pub struct Chain {
 // The selected drive, if a fitted one is.
 pub struct Seen {
     pub selected: bool,
-    pub place: Place,
     pub profile: Profile,
     pub state: State,
 }

@@ -39,12 +39,10 @@ pub fn look(c: Chain) -> Seen
     let states = c.states;
     let select = c.lines.select;
     let p = pack_in(packs, select);
-    let place = p.place;
     let profile = p.profile;
     let state = state_in(states, select);
     Seen {
         selected: pack_read::fitted(p),
-        place,
         profile,
         state,
     }

@@ -14,6 +14,7 @@ use Rattle.event.specs.declared.Answer.the-variants.{Unselected, Fault}
 use Rattle.lines.specs.declared.Lines.{Lines}
 use Rattle.chain_decision.specs.declared.Change.the-variants.{One, Two}
 use Rattle.chain_decision.specs.declared.Deed.the-variants.{Say}
+use Rattle.chain_decision.specs.declared.Sent.the-variants.{Nothing}
 use Rattle.chain_decision.specs.declared.Decision.{Decision}
 use Rattle.chain_record.specs.declared.Seen.{Seen}
 use Rattle.chain_decision.specs.Decision.{outcomeAnswer, heardOf, ruledOf}
@@ -27,12 +28,13 @@ eitherAnswer outcome.Inhibited other = other
 
 -- no fitted drive is entered
 abbrev pub leftAlone : ℕ → Ruled → Lines → Decision
-leftAlone slot left l = record { lines = l; change = One slot (left .state); deed = Say (eitherAnswer (left .outcome) Unselected) }
+leftAlone slot left l = record { lines = l; change = One slot (left .state); word = Nothing; deed = Say (eitherAnswer (left .outcome) Unselected) }
 
 abbrev pub bothOf : ℕ → Ruled → Ruled → Lines → Decision
 bothOf slot left entered l = record {
   lines = l;
   change = Two slot (left .state) (l .select) (entered .state);
+  word = Nothing;
   deed = Say (eitherAnswer (left .outcome) (outcomeAnswer (entered .outcome)));
 }
 
@@ -41,6 +43,6 @@ unfoldable pub movedOf : Seen → Lines → Lines → Pack → State → Decisio
 movedOf d l m p s =
     if fittedB p then
     (if d .selected then bothOf (l .select) (leftOf (d .state)) (metOf (p .profile) (l .heads) s) m
-    else ruledOf m (metOf (p .profile) (l .heads) s))
+    else ruledOf m Nothing (metOf (p .profile) (l .heads) s))
     else if d .selected then leftAlone (l .select) (leftOf (d .state)) m
     else heardOf m false

@@ -2,6 +2,7 @@
 use chain_decision::Change;
 use chain_decision::Decision;
 use chain_decision::Deed;
+use chain_decision::Sent;
 use chain_record::Seen;
 use drive_record::Outcome;
 use drive_record::Ruled;
@@ -34,6 +35,7 @@ fn left_alone(slot: u8, left: Ruled, m: Lines) -> Decision
     Decision {
         lines: m,
         change: Change::One(slot, state),
+        word: Sent::Nothing,
         deed: Deed::Say(either(outcome, Answer::Unselected)),
     }
 }
@@ -48,6 +50,7 @@ fn both(slot: u8, left: Ruled, entered: Ruled, m: Lines) -> Decision
     Decision {
         lines: m,
         change: Change::Two(slot, old, m.select, new),
+        word: Sent::Nothing,
         deed: Deed::Say(either(outcome, chain_decision::answer_of(after))),
     }
 }
@@ -64,7 +67,7 @@ pub fn moved(d: Seen, l: Lines, m: Lines, p: Pack, s: State) -> Decision
         if d.selected {
             return both(l.select, left::left(left), entered, m);
         }
-        return chain_decision::ruled(m, entered);
+        return chain_decision::ruled(m, Sent::Nothing, entered);
     }
     if d.selected {
         return left_alone(l.select, left::left(left), m);

@@ -32,7 +32,8 @@ use Rattle.chain_record.specs.declared.Chain.{Chain}
 use Rattle.chain_record.specs.declared.Seen.{Seen}
 use Rattle.chain_sound.specs.declared.Placed.{Placed}
 use Rattle.chain_record.specs.Record.{slotB, slotPack, slotState, lookOf}
-use Rattle.chain_others.specs.Cell.{cellPlace}
+use Rattle.chain_decision.specs.Deeds.{spotPlace}
+use Rattle.chain_others.specs.Cell.{cellSpot}
 use Rattle.chain_sound.specs.SoundChain.{packTests, packB, placedOf, placesB, driveB, chainSoundB}
 
 unless : (a b : Bool) → (if a then false else b) ≡ true → (a ≡ false) × (b ≡ true)
@@ -161,8 +162,8 @@ chosen c h on =
 -- the byte that a cell meets stands in the selected pack's medium
 pub cell-inside : (c : Chain) (position : Position) → chainSoundB c ≡ true → lookOf c .selected ≡ true → position .0 < lookOf c .profile .shape .track .0
     → (lookOf c .state .body .writing ≡ 1) ⊎ (lookOf c .state .body .reading ≡ 1)
-    → cellPlace (lookOf c) position < lookOf c .place .0 + mediumOf (lookOf c .profile .shape)
-unfolding cellPlace placeOf
+    → spotPlace (c .packs) (cellSpot (lookOf c) (c .lines) position) < slotPack (c .packs) (c .lines .select) .place .0 + mediumOf (lookOf c .profile .shape)
+unfolding spotPlace placeOf lookOf
 cell-inside c position h on t u =
     let d = chosen c h on .drive in
     let present = ⊎-elim (λ w. usable _ _ (writes _ _ _ (d .writing) w .usable) .present) (λ r. usable _ _ (reads _ _ _ (d .reading) r .usable) .present) u in
@@ -170,6 +171,7 @@ cell-inside c position h on t u =
 
 -- and so in the file
 pub cell-in-file : (c : Chain) (position : Position) → chainSoundB c ≡ true → lookOf c .selected ≡ true → position .0 < lookOf c .profile .shape .track .0
-    → (lookOf c .state .body .writing ≡ 1) ⊎ (lookOf c .state .body .reading ≡ 1) → cellPlace (lookOf c) position < c .length .0
+    → (lookOf c .state .body .writing ≡ 1) ⊎ (lookOf c .state .body .reading ≡ 1)
+    → spotPlace (c .packs) (cellSpot (lookOf c) (c .lines) position) < c .length .0
 unfolding lookOf
 cell-in-file c position h on t u = omega (arith, chosen c h on .pack .within, cell-inside c position h on t u)

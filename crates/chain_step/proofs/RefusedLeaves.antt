@@ -37,7 +37,7 @@ use Rattle.chain_step.specs.Step.{stepOf, stepFile}
 module _ (c : Chain) (file : List ℕ) where
   -- a decision that refuses changes nothing
   abbrev Quiet : Event → Decision → Type 0
-  Quiet e d = 20 ≤ answerNumber (saidOf (d .deed) file) → (applied c d ≡ c) × (fileAfter (d .deed) file ≡ file)
+  Quiet e d = 20 ≤ answerNumber (saidOf (c .packs) (d .deed) file) → (applied c d ≡ c) × (fileAfter (c .packs) (d .deed) file ≡ file)
 
   low : (o : Outcome) → 20 ≤ answerNumber (outcomeAnswer o) → ⊥
   low outcome.Done h = omega arith
@@ -93,8 +93,8 @@ module _ (c : Chain) (file : List ℕ) where
   unfolding stepOf stepFile judgedOf applied changedOf
   refused-leaves kind a b = by (decodeOf kind a b)
     where
-      by : (x : Decoded) → 20 ≤ answerNumber (saidOf (decodedOf c (length file) x .deed) file)
-          → (applied c (decodedOf c (length file) x) ≡ c) × (fileAfter (decodedOf c (length file) x .deed) file ≡ file)
+      by : (x : Decoded) → 20 ≤ answerNumber (saidOf (c .packs) (decodedOf c (length file) x .deed) file)
+          → (applied c (decodedOf c (length file) x) ≡ c) × (fileAfter (c .packs) (decodedOf c (length file) x .deed) file ≡ file)
       by (Is e) = allowed e
       by Unknown = λ h. (refl, refl)
       by Range = λ h. (refl, refl)

@@ -1,11 +1,15 @@
 // An event in, an answer out, over the lent file. Nothing is expected of the caller: every record, file and number is taken or refused.
 use chain_decision::Decision;
 use chain_decision::Deed;
+use chain_decision::Spot;
 use chain_record::Chain;
+use chain_record::slots;
+use drive_gates::cell;
 use event::Answer;
+use pack_read::Pack;
 ghost use mathlib.Core.Path.{_≡_};
 ghost use lib.ListN.{length};
-ghost use Rattle.chain_decision.specs.Deeds.{Fits};
+ghost use Rattle.chain_decision.specs.Deeds.{spotPlace, Fits};
 ghost use Rattle.chain_step.specs.Step.{Obeyed, performOf, stepOf, stepFile};
 
 // What is decided and done on the file; the record is still to change.
@@ -19,15 +23,31 @@ pub struct Stepped {
     pub answer: Answer,
 }
 
+// Where in the file a cell stands.
+fn place_of(packs: [Pack; 7], s: Spot) -> usize
+    ensures { λ r. ⌜ r ≡ spotPlace packs s ⌝ }
+{
+    let cylinder = s.cylinder;
+    let head = s.head;
+    let position = s.position;
+    let p = slots::pack_in(packs, s.slot);
+    let profile = p.profile;
+    p.place.0 as usize + cell::place(profile, cylinder, head, position)
+}
+
 // The one place that touches the file: one byte read, one byte written, or nothing.
-fn obey(file: &mut [u8], deed: Deed) -> Answer
-    requires { ⌜ Fits (length (now file)) deed ⌝ }
-    ensures { λ r. ⌜ Obeyed deed (now (file .entry)) r (now (file .exit)) ⌝ }
+fn obey(packs: [Pack; 7], file: &mut [u8], deed: Deed) -> Answer
+    requires { ⌜ Fits packs (length (now file)) deed ⌝ }
+    ensures { λ r. ⌜ Obeyed packs deed (now (file .entry)) r (now (file .exit)) ⌝ }
 {
     match deed {
         Deed::Say(answer) => answer,
-        Deed::Read(i) => Answer::Read(file[i]),
-        Deed::Write(i, byte) => {
+        Deed::Read(spot) => {
+            let i = place_of(packs, spot);
+            Answer::Read(file[i])
+        }
+        Deed::Write(spot, byte) => {
+            let i = place_of(packs, spot);
             file[i] = byte;
             Answer::Written
         }
@@ -39,8 +59,9 @@ pub fn perform(c: Chain, file: &mut [u8], kind: u32, a: u32, b: u32) -> Performe
     ensures { λ r. ⌜ (r ≡ performOf kind a b c (now (file .entry))) × (now (file .exit) ≡ stepFile kind a b c (now (file .entry))) ⌝ }
 {
     let decision = chain_judge::judge(c, file.len(), kind, a, b);
+    let packs = c.packs;
     let deed = decision.deed;
-    let answer = obey(file, deed);
+    let answer = obey(packs, file, deed);
     Performed { decision, answer }
 }
 

@@ -1,9 +1,10 @@
 -- "the byte at (cylinder × heads + head) × track length + position of that pack's medium"
 use Prim.Native.Nat.{ℕ, _+_, _*_, _<_}
 use mathlib.Core.Path.{_≡_}
+use Rattle.counts.specs.declared.Cylinder.{Cylinder}
+use Rattle.counts.specs.declared.Head.{Head}
 use Rattle.counts.specs.declared.Position.{Position}
 use Rattle.pack_profile.specs.declared.Profile.{Profile}
-use Rattle.drive_record.specs.declared.Body.{Body}
 
 -- the number of a track
 pub record Track (cylinder heads head r : ℕ) : Type 0 where
@@ -13,10 +14,10 @@ pub record Track (cylinder heads head r : ℕ) : Type 0 where
 abbrev pub cellInTrack : ℕ → ℕ → ℕ → ℕ
 cellInTrack track bytes position = track * bytes + position
 
-unfoldable pub placeOf : Profile → Body → Position → ℕ
-placeOf p b position = cellInTrack (b .arm .cylinder .0 * p .shape .heads .0 + b .head .0) (p .shape .track .0) (position .0)
+unfoldable pub placeOf : Profile → Cylinder → Head → Position → ℕ
+placeOf p cylinder head position = cellInTrack (cylinder .0 * p .shape .heads .0 + head .0) (p .shape .track .0) (position .0)
 
 -- whatever the fields say, the place is below 2 ^ 40
-pub record Spot (p : Profile) (b : Body) (position : Position) (r : ℕ) : Type 0 where
-  pub is : r ≡ placeOf p b position
+pub record InMedium (p : Profile) (cylinder : Cylinder) (head : Head) (position : Position) (r : ℕ) : Type 0 where
+  pub is : r ≡ placeOf p cylinder head position
   pub most : r < 1_099_511_627_776

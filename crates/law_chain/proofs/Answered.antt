@@ -64,7 +64,7 @@ module _ (c : Chain) (file : List ℕ) where
   d = lookOf c
 
   abbrev P : Event → Decision → Type 0
-  P e x = Answers (saidOf (x .deed) file)
+  P e x = Answers (saidOf (c .packs) (x .deed) file)
 
   cases : Cases c P
   unfolding passEvent
@@ -89,7 +89,7 @@ module _ (c : Chain) (file : List ℕ) where
   unfolding allowedOf
   allowed e s = rw (s .formed, eq-eqb (length file) (c .length .0) (s .long)) (walk c P cases e)
 
-  decoded : (x : Decoded) → SoundOver (lent c file) → Answers (saidOf (decodedOf c (length file) x .deed) file)
+  decoded : (x : Decoded) → SoundOver (lent c file) → Answers (saidOf (c .packs) (decodedOf c (length file) x .deed) file)
   decoded (Is e) s = allowed e s
   decoded Unknown s = ((λ z. omega arith), (λ z. omega arith))
   decoded Range s = ((λ z. omega arith), (λ z. omega arith))

@@ -34,14 +34,13 @@ use Rattle.chain_decision.specs.Decision.{outcomeAnswer}
 use Rattle.chain_decision.specs.Deeds.{saidOf, fileAfter}
 use Rattle.chain_select.specs.Select.{eitherAnswer}
 use Rattle.chain_others.specs.Passing.{passEvent}
-use Rattle.chain_others.specs.Cell.{cellPlace}
 use Rattle.chain_decide.specs.Decide.{decideOf}
 use Rattle.chain_apply.specs.Apply.{putOf, changedOf, applied}
 use Rattle.chain_sound.specs.SoundChain.{chainSoundB}
 use Rattle.chain_sound.proofs.SoundSlots.{cell-in-file}
 use Rattle.chain_judge.specs.Judge.{allowedOf, judgedOf}
 use Rattle.chain_step.specs.Step.{stepOf, stepFile}
-use Rattle.law_chain.specs.Column.{Leaves}
+use Rattle.law_chain.specs.Column.{metPlace, Leaves}
 use Rattle.chain_decide.proofs.Walk.{Cases, walk}
 use Rattle.law_chain.proofs.Outcomes.{Unlatched, write-unlatched, read-unlatched, met-acts, left-acts, rises-acts, falls-acts, left-done}
 
@@ -74,7 +73,7 @@ module _ (c : Chain) (file : List ℕ) (h : chainSoundB c ≡ true) (n : length 
   l = c .lines
 
   abbrev P : Event → Decision → Type 0
-  P e x = Leaves e c file (saidOf (x .deed) file) (applied c x) (fileAfter (x .deed) file)
+  P e x = Leaves e c file (saidOf (c .packs) (x .deed) file) (applied c x) (fileAfter (c .packs) (x .deed) file)
 
   -- a chain whose states are others
   abbrev with : List State → Lines → Chain
@@ -110,7 +109,7 @@ module _ (c : Chain) (file : List ℕ) (h : chainSoundB c ≡ true) (n : length 
   timed e false chain = refl
 
   inside : (position : Position) → d .selected ≡ true → position .0 < d .profile .shape .track .0
-      → (d .state .body .writing ≡ 1) ⊎ (d .state .body .reading ≡ 1) → cellPlace d position < length file
+      → (d .state .body .writing ≡ 1) ⊎ (d .state .body .reading ≡ 1) → metPlace c position < length file
   inside position on t u = omega (arith, cell-in-file c position h on t u)
 
   cases : Cases c P
@@ -139,7 +138,7 @@ module _ (c : Chain) (file : List ℕ) (h : chainSoundB c ≡ true) (n : length 
 
 module _ (c : Chain) (file : List ℕ) where
   abbrev Left : Event → Decision → Type 0
-  Left e d = Leaves e c file (saidOf (d .deed) file) (applied c d) (fileAfter (d .deed) file)
+  Left e d = Leaves e c file (saidOf (c .packs) (d .deed) file) (applied c d) (fileAfter (c .packs) (d .deed) file)
 
   allowed : (e : Event) → Left e (allowedOf c (length file) e)
   unfolding allowedOf applied changedOf

@@ -330,13 +330,13 @@ module _ (c : Chain) (file : List ℕ) (e : Event) where
   abbrev First : Answer → Type 0
   First a = answerNumber a ≤ 5 → (answerNumber a ≡ 1 → ⊥) → (answerNumber a ≡ 2 → ⊥) → answerNumber a ≡ firstApplies c e
 
-  said : (h : chainSoundB c ≡ true) (x : Deed) → Says c h e x → First (saidOf x file)
+  said : (h : chainSoundB c ≡ true) (x : Deed) → Says c h e x → First (saidOf (c .packs) x file)
   said h (Say a) g = λ s one two. g s
   said h (Read i) g = λ s one two. absurd (one refl)
   said h (Write i byte) g = λ s one two. absurd (two refl)
 
   abbrev Gives : Decision → Type 0
-  Gives d = First (saidOf (d .deed) file)
+  Gives d = First (saidOf (c .packs) (d .deed) file)
 
   allowed : Gives (allowedOf c (length file) e)
   unfolding allowedOf

@@ -2,14 +2,14 @@
 use mathlib.Core.Path.{_≡_, refl, sym, ap, _∙_}
 use mathlib.Core.List.{List, [], _∷_}
 use Prim.Native.Nat.{ℕ}
-use lib.ListN.{length, length-set}
+use lib.ListN.{length, set, length-set}
 use Rattle.counts.specs.declared.Place.{Place}
 use Rattle.counts.specs.Bytes.{Bytes}
+use Rattle.pack_read.specs.declared.Pack.{Pack}
 use Rattle.pack_read.specs.declared.read.Answer.the-variants.{Whole}
 use Rattle.pack_read.specs.Read.{readAll}
 use Rattle.chain_record.specs.declared.Chain.{Chain}
 use Rattle.chain_decision.specs.declared.Deed.{Deed}
-use Rattle.chain_decision.specs.declared.Deed.the-variants.{Say, Read, Write}
 use Rattle.chain_decision.specs.Deeds as deeds
 use Rattle.chain_apply.specs.Apply.{applied}
 use Rattle.chain_fit.specs.Fresh.{freshFit}
@@ -20,17 +20,19 @@ use Rattle.law_chain.specs.SoundOver.{SoundOver}
 use Rattle.law_chain.proofs.Fitted.{whole-sound, fitted-length}
 use Rattle.law_chain.proofs.Kept.{sound-kept}
 
--- a deed leaves the file as long as it was
-pub deed-long : (x : Deed) (file : List ℕ) → length (deeds.fileAfter x file) ≡ length file
-deed-long (Say a) file = refl
-deed-long (Read i) file = refl
-deed-long (Write i byte) file = length-set file i byte
+-- bytes put leave the file as long as it was, and so does a deed
+puts-long : (puts : List deeds.BytePut) (file : List ℕ) → length (deeds.putAll puts file) ≡ length file
+puts-long [] file = refl
+puts-long (p ∷ rest) file = puts-long rest (set file (p .place) (p .byte)) ∙ length-set file (p .place) (p .byte)
+
+pub deed-long : (packs : List Pack) (x : Deed) (file : List ℕ) → length (deeds.fileAfter packs x file) ≡ length file
+deed-long packs x file = puts-long (deeds.putsOf packs x) file
 
 module _ (c : Chain) (file : List ℕ) where
   -- the file keeps its length, and the record says the same length
   pub length-kept : (kind a b : ℕ) → length (stepFile kind a b c file) ≡ length file
   unfolding stepFile
-  length-kept kind a b = deed-long (judgedOf c (length file) kind a b .deed) file
+  length-kept kind a b = deed-long (c .packs) (judgedOf c (length file) kind a b .deed) file
 
   pub record-kept : (kind a b : ℕ) → stepOf kind a b c file .chain .length ≡ c .length
   unfolding stepOf applied

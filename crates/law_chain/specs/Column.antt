@@ -12,25 +12,30 @@ use Rattle.event.specs.declared.Answer.{Answer}
 use Rattle.event.specs.Answer.{answerNumber, answerValue}
 use Rattle.chain_record.specs.declared.Chain.{Chain}
 use Rattle.chain_record.specs.Record.{lookOf}
-use Rattle.chain_others.specs.Cell.{cellPlace}
+use Rattle.chain_decision.specs.Deeds.{spotPlace}
+use Rattle.chain_others.specs.Cell.{cellSpot}
 use Rattle.chain_apply.specs.Apply.{putOf}
 use Rattle.chain_decide.specs.Levels.{linesAfter}
+
+-- where the byte stands that a cell of the selected drive meets
+abbrev pub metPlace : Chain → Position → ℕ
+metPlace c position = spotPlace (c .packs) (cellSpot (lookOf c) (c .lines) position)
 
 -- the event is a cell, the value is the byte that it meets
 pub record ByteRead (e : Event) (c : Chain) (file : List ℕ) (value : ℕ) : Type 0 where
   pub position : Position
   pub byte : ℕ
   pub cell : e ≡ Cell position byte
-  pub inside : cellPlace (lookOf c) position < length file
-  pub is : value ≡ getD file (cellPlace (lookOf c) position) 0
+  pub inside : metPlace c position < length file
+  pub is : value ≡ getD file (metPlace c position) 0
 
 -- the event is a cell, its byte stands where it meets the file, and no other has changed
 pub record ByteWritten (e : Event) (c : Chain) (file after : List ℕ) : Type 0 where
   pub position : Position
   pub byte : ℕ
   pub cell : e ≡ Cell position byte
-  pub inside : cellPlace (lookOf c) position < length file
-  pub holds : after ≡ set file (cellPlace (lookOf c) position) byte
+  pub inside : metPlace c position < length file
+  pub holds : after ≡ set file (metPlace c position) byte
 
 -- line levels taken, nothing else changed
 abbrev pub linesTaken : Event → Chain → Chain

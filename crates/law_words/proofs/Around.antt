@@ -57,7 +57,7 @@ module _ (c : Chain) (file : List ℕ) where
 
   -- what is seen of it
   abbrev sight : State → Seen
-  sight s = record { selected = true; place = lookOf c .place; profile = lookOf c .profile; state = s }
+  sight s = record { selected = true; profile = lookOf c .profile; state = s }
 
   module _ (h : Here c (c .lines .select)) (on : lookOf c .selected ≡ true) (writes : c .lines .writegate ≡ 0) (reads : c .lines .readgate ≡ 0) where
     put-there : (us : ℕ) (s : State) → slotState (set (slots us) (c .lines .select - 1) s) (c .lines .select) ≡ s
@@ -70,7 +70,6 @@ module _ (c : Chain) (file : List ℕ) where
     unfolding lookOf
     seen u = λ i. record {
       selected = on i;
-      place = lookOf c .place;
       profile = lookOf c .profile;
       state = put-there (u .elapsed) (stateOf (u .body) (u .transfer)) i;
     }
@@ -80,10 +79,10 @@ module _ (c : Chain) (file : List ℕ) where
 
     -- a decision carried out
     abbrev obeyed : Wired Body → Decision → Lent
-    obeyed u x = record { chain = applied (around u .chain) x; file = fileAfter (x .deed) file }
+    obeyed u x = record { chain = applied (around u .chain) x; file = fileAfter (c .packs) (x .deed) file }
 
     abbrev said : Decision → ℕ
-    said x = answerNumber (saidOf (x .deed) file)
+    said x = answerNumber (saidOf (c .packs) (x .deed) file)
 
     -- kind 4
     level-after : (v : ℕ) (u : Wired Body) → decided .after (level v) (around u) ≡ around (after (drive (lookOf c .profile)) (level v) u)

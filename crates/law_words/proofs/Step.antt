@@ -48,9 +48,9 @@ module _ (e : Signal) (d : Lent) (f : InRange e) (s : chainSoundB (d .chain) ≡
   unfolding stepOf
   step-is = ap (performed (d .chain) (d .file)) judged-is
 
-  file-is : stepFile (kindOf e) (operandOf e) 0 (d .chain) (d .file) ≡ fileAfter (decisionOf e d .deed) (d .file)
+  file-is : stepFile (kindOf e) (operandOf e) 0 (d .chain) (d .file) ≡ fileAfter (d .chain .packs) (decisionOf e d .deed) (d .file)
   unfolding stepFile
-  file-is = ap (λ (x : Decision). fileAfter (x .deed) (d .file)) judged-is
+  file-is = ap (λ (x : Decision). fileAfter (d .chain .packs) (x .deed) (d .file)) judged-is
 
   after-is : decided .after e d ≡ stepped .after e d
   after-is = λ i. record { chain = sym step-is i .chain; file = sym file-is i }
@@ -60,7 +60,7 @@ module _ (e : Signal) (d : Lent) (f : InRange e) (s : chainSoundB (d .chain) ≡
 
   still-long : length (decided .after e d .file) ≡ decided .after e d .chain .length .0
   unfolding applied
-  still-long = deed-long (decisionOf e d .deed) (d .file) ∙ l
+  still-long = deed-long (d .chain .packs) (decisionOf e d .deed) (d .file) ∙ l
 
 abbrev Short : ℕ → Type 0
 Short us = us ≤ 65_535

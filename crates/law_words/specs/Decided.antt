@@ -31,8 +31,8 @@ driveOf c = lookOf c .state
 
 abbrev pub decided : Cable Lent
 decided = record {
-  after = λ (e : Signal) (d : Lent). lent (applied (d .chain) (decisionOf e d)) (fileAfter (decisionOf e d .deed) (d .file));
-  answer = λ (e : Signal) (d : Lent). answerNumber (saidOf (decisionOf e d .deed) (d .file));
+  after = λ (e : Signal) (d : Lent). lent (applied (d .chain) (decisionOf e d)) (fileAfter (d .chain .packs) (decisionOf e d .deed) (d .file));
+  answer = λ (e : Signal) (d : Lent). answerNumber (saidOf (d .chain .packs) (decisionOf e d .deed) (d .file));
   acknowledged = λ (d : Lent). eqb (driveOf (d .chain) .transfer .acknowledge) 1;
   responds = λ (d : Lent). eqb (driveOf (d .chain) .transfer .way) responding;
   status = λ (d : Lent). statusLine (driveOf (d .chain) .transfer);

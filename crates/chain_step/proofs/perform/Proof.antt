@@ -11,8 +11,8 @@ judge-requires c κs = search needs
 
 obey-requires : tie.Need-obey-requires
 obey-requires c κs =
-    let a = c .before .before .before .args in
-    rw (c .before .judge .ensures) (judged-fits (a .c) _ (a .kind) (a .a) (a .b))
+    let a = c .before .before .before .before .args in
+    rw (c .before .before .judge .ensures) (judged-fits (a .c) _ (a .kind) (a .a) (a .b))
 
 same-length : tie.Need-same-length
 same-length c = search needs
@@ -21,7 +21,7 @@ returns : tie.Need-returns
 unfolding performOf stepFile
 returns c =
     let o = c .before .before in
-    let j = o .before .before in
+    let j = o .before .before .before in
     (simp (o .obey .ensures .is, j .judge .ensures), o .obey .ensures .holds ∙ simp (j .judge .ensures))
 
 pub perform-spec : {M : Type 1} → statement M

@@ -22,8 +22,8 @@ returns-2 c =
     let b6 = b4 .before .before in
     simp (not-false (b6 .args .d .selected) (b4 .if1 .left), le-leb _ _ (c .before .if2 .taken), c .say2 .ensures)
 
-place-of-requires : tie.Need-place-of-requires
-place-of-requires c κs = search needs
+spot-requires : tie.Need-spot-requires
+spot-requires c κs = search needs
 
 returns-3 : tie.Need-returns-3
 unfolding cellEvent
@@ -31,10 +31,10 @@ returns-3 c =
     let b3 = c .before .before .before in
     let b6 = b3 .before .before .before in
     let b8 = b6 .before .before in
-    simp (not-false (b8 .args .d .selected) (b6 .if1 .left), lt-leb _ _ (b3 .if2 .left), eq-eqb _ _ (c .before .if3 .taken), c .place-of .ensures)
+    simp (not-false (b8 .args .d .selected) (b6 .if1 .left), lt-leb _ _ (b3 .if2 .left), eq-eqb _ _ (c .before .if3 .taken), c .spot .ensures)
 
-place-of-requires-2 : tie.Need-place-of-requires-2
-place-of-requires-2 c κs = search needs
+spot-requires-2 : tie.Need-spot-requires-2
+spot-requires-2 c κs = search needs
 
 returns-4 : tie.Need-returns-4
 unfolding cellEvent
@@ -43,7 +43,7 @@ returns-4 c =
     let b5 = b3 .before .before in
     let b8 = b5 .before .before .before in
     let b10 = b8 .before .before in
-    simp (not-false (b10 .args .d .selected) (b8 .if1 .left), lt-leb _ _ (b5 .if2 .left), ne-eqb _ _ (b3 .if3 .left), eq-eqb _ _ (c .before .if4 .taken), c .place-of2 .ensures)
+    simp (not-false (b10 .args .d .selected) (b8 .if1 .left), lt-leb _ _ (b5 .if2 .left), ne-eqb _ _ (b3 .if3 .left), eq-eqb _ _ (c .before .if4 .taken), c .spot2 .ensures)
 
 say-requires-3 : tie.Need-say-requires-3
 say-requires-3 c κs = search needs
@@ -65,9 +65,9 @@ data-cell-spec =
     returns
     say-requires-2
     returns-2
-    place-of-requires
+    spot-requires
     returns-3
-    place-of-requires-2
+    spot-requires-2
     returns-4
     say-requires-3
     returns-5)

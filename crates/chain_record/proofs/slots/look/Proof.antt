@@ -15,7 +15,7 @@ fitted-requires c κs = search needs
 
 returns : tie.Need-returns
 unfolding lookOf
-returns c = simp (c .before .before .before .before .pack-in .ensures, c .before .state-in .ensures, c .fitted .ensures)
+returns c = simp (c .before .before .before .pack-in .ensures, c .before .state-in .ensures, c .fitted .ensures)
 
 pub look-spec : {M : Type 1} → statement M
 look-spec = tie.close (tie.spec pack-in-requires state-in-requires fitted-requires returns)
