@@ -5,7 +5,7 @@ use counts::Place;
 use libc::STDERR_FILENO;
 use pack_profile::Profile;
 use pack_read::Refusal;
-use pack_read::read::Answer;
+use pack_read::read::Reading;
 ghost use Prim.Native.Nat.{_≤_};
 ghost use lib.ListN.{length};
 
@@ -36,8 +36,8 @@ fn run(file: &mut [u8]) {
     let fitted = chain_fit::fit(file);
     let answer = fitted.answer;
     match answer {
-        Answer::Whole => stream::serve(fitted.chain, file),
-        Answer::Refused(why, place) => complain_refused(why, place),
+        Reading::Whole => stream::serve(fitted.chain, file),
+        Reading::Refused(why, place) => complain_refused(why, place),
     }
 }
 

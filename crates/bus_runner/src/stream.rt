@@ -1,24 +1,18 @@
-// Event lines in, answer lines out, in blocks. Bytes are scanned apart from the chain, which moves once a line.
-use bus_text::Scan;
+// Standard input and output around `bus_stream`: a block is read, its answers are written, and the next is read.
+use bus_stream::BLOCK;
+use bus_stream::Session;
 use chain_record::Chain;
 use libc::STDIN_FILENO;
 use libc::STDOUT_FILENO;
 ghost use mathlib.Core.Path.{_≡_};
+ghost use mathlib.Core.List.{[]};
 ghost use Prim.Native.Nat.{_≤_};
-ghost use lib.ListN.{length};
-ghost use Rattle.bus_runner.specs.Block.{block as blockLength};
-
-// The length of the input block and of the output that waits.
-const BLOCK: usize = 65_536;
+ghost use lib.ListN.{length, take};
+ghost use Rattle.bus_stream.specs.Stream.{streamOf, fedBytes};
+ghost use Rattle.bus_stream.specs.Parts.{blockLength};
 
 struct Run {
-    chain: Chain,
-    // the line that is being read
-    scan: Scan,
-    // how many lines were answered
-    lines: u64,
-    // how much of the output waits
-    at: usize,
+    session: Session,
     // false once a write failed
     open: bool,
 }
@@ -35,6 +29,7 @@ fn complain() {
     os::fail(b"standard output");
 }
 
+// Writes what waits. Gives whether the reader is still there.
 fn written(out: &[u8], n: usize, open: bool) -> bool
     requires { ⌜ n ≤ length (now out) ⌝ }
 {
@@ -48,71 +43,21 @@ fn written(out: &[u8], n: usize, open: bool) -> bool
     good
 }
 
-// Writes out what waits.
-fn flushed(out: &[u8; BLOCK], r: Run) -> Run
-    requires { ⌜ r .at ≤ blockLength ⌝ }
-    ensures { λ q. ⌜ q .at ≤ blockLength ⌝ }
-{
-    let mut q = r;
-    q.open = written(out, r.at, r.open);
-    q.at = 0;
-    q
-}
-
-// Puts an answer line behind the output that waits, and gives the place where it ends.
-fn put(out: &mut [u8], at: usize, lines: u64, answer: u8, value: u8, sum: u8) -> usize
-    requires { ⌜ at ≤ length (now out) ⌝ }
-    ensures { λ r. ⌜ r ≤ length (now (out .entry)) ⌝ }
-{
-    at + bus_text::put::put_answer(&mut out[at..], lines, answer, value, sum)
-}
-
-// Runs a line's event, and puts its answer behind the output that waits.
-fn stored(out: &mut [u8; BLOCK], file: &mut [u8], r: Run, scan: Scan) -> Run
-    requires { ⌜ r .at ≤ blockLength ⌝ }
-    ensures { λ q. ⌜ q .at ≤ blockLength ⌝ }
-{
-    let t = bus_reply::to_line(r.chain, file, bus_text::read::finish(scan));
-    let chain = t.chain;
-    let lines = std::num::wrapping_add_u64(r.lines, 1);
-    Run {
-        chain,
-        scan: Scan::fresh(),
-        lines,
-        at: put(out, r.at, lines, t.answer, t.value, t.sum),
-        open: r.open,
-    }
-}
-
-// Takes a line as far as it was read, and answers it where it ends. Writes what waits when the next answer might not fit.
-fn met(out: &mut [u8; BLOCK], file: &mut [u8], r: Run, scan: Scan, ends: bool) -> Run
-    requires { ⌜ r .at ≤ blockLength ⌝ }
-    ensures { λ q. ⌜ q .at ≤ blockLength ⌝ }
-{
-    if !ends {
-        let mut on = r;
-        on.scan = scan;
-        return on;
-    }
-    let q = stored(out, file, r, scan);
-    if q.at > BLOCK - bus_text::put::LONGEST {
-        return flushed(out, q);
-    }
-    q
-}
-
-// The first n bytes of a block of input, which may end within a line.
+// The first n bytes of a block of input. Every answer goes out before the next read, since a host may wait for it.
 fn fed(block: &[u8], n: usize, out: &mut [u8; BLOCK], file: &mut [u8], first: Run) -> Run
-    requires { ⌜ (length (now block) ≡ blockLength) × (n ≤ blockLength) × (first .at ≤ blockLength) ⌝ }
-    ensures { λ q. ⌜ q .at ≤ blockLength ⌝ }
+    requires { ⌜ n ≤ length (now block) ⌝ }
+    ensures { λ q. ⌜ (q .session ≡ fedBytes (streamOf (first .session) (now (file .entry)) []) (take n (now (block .entry))) .session) × (now (file .exit) ≡ fedBytes (streamOf (first .session) (now (file .entry)) []) (take n (now (block .entry))) .file) ⌝ }
 {
     let mut r = first;
     let mut i = 0;
     while i < n {
-        let stop = bus_text::read::scan_on(&block[i..n], r.scan);
-        let end = i + stop.at;
-        r = met(out, file, r, stop.scan, end < n);
-        i = end + 1;
+        let t = bus_stream::feed(&block[i..n], out, file, r.session);
+        let session = t.session;
+        r = Run {
+            session,
+            open: written(out, t.at, r.open),
+        };
+        i += t.used;
     }
     r
 }
@@ -131,16 +76,12 @@ fn filled(block: &mut [u8; BLOCK], open: bool) -> usize
     io::count(got, block)
 }
 
-// Reads to the end of the input. Every answer goes out before the next read, since a host may wait for it.
+// Reads to the end of the input.
 // A proved loop must end, so this one counts its turns down from a number that no run reaches.
-fn run_all(block: &mut [u8; BLOCK], out: &mut [u8; BLOCK], file: &mut [u8], first: Run) -> Run
-    requires { ⌜ first .at ≤ blockLength ⌝ }
-    ensures { λ q. ⌜ q .at ≤ blockLength ⌝ }
-{
+fn run_all(block: &mut [u8; BLOCK], out: &mut [u8; BLOCK], file: &mut [u8], first: Run) -> Run {
     let mut r = first;
     let mut turns = u64::MAX;
     while turns > 0 {
-        r = flushed(out, r);
         let n = filled(block, r.open);
         if n == 0 {
             break;
@@ -151,23 +92,14 @@ fn run_all(block: &mut [u8; BLOCK], out: &mut [u8; BLOCK], file: &mut [u8], firs
     r
 }
 
-fn start(chain: Chain) -> Run
-    ensures { λ q. ⌜ q .at ≤ blockLength ⌝ }
-{
-    Run {
-        chain,
-        scan: Scan::fresh(),
-        lines: 0,
-        at: 0,
-        open: true,
-    }
-}
-
 fn serve_in(chain: Chain, file: &mut [u8], block: &mut [u8; BLOCK], out: &mut [u8; BLOCK]) {
-    let r = run_all(block, out, file, start(chain));
-    // the last line may lack its newline
-    let end = met(out, file, r, r.scan, bus_text::read::has_byte(r.scan));
-    flushed(out, end);
+    let first = Run {
+        session: bus_stream::opened(chain),
+        open: true,
+    };
+    let r = run_all(block, out, file, first);
+    let n = bus_stream::close(out, file, r.session);
+    written(out, n, r.open);
 }
 
 // Answers every line of standard input.

@@ -8,7 +8,7 @@ use lib.ListN.{length, set, length-append}
 use lib.Seq.{sets, sets-eq}
 use borrow.Author.Tests.{le-leb, lt-leb}
 use Rattle.bus_text.specs.AnswerLine.{longestLine}
-use Rattle.bus_text.specs.Stored.{Put, fitting, Answered}
+use Rattle.bus_text.specs.Stored.{Put, fitting, LineStored}
 
 sets-append : (t u l : List ℕ) (at : ℕ) → sets l at (t ++ u) ≡ sets (sets l at t) (at + length t) u
 sets-append [] u l at = simp add-zero
@@ -22,7 +22,7 @@ put-then {old = old} {t = t} {u = u} {at = at} a b = record {
 }
 
 -- a part too short for the longest line
-pub refused : (old line : List ℕ) → length old < longestLine → Answered old line old 0
+pub refused : (old line : List ℕ) → length old < longestLine → LineStored old line old 0
 unfolding fitting
 refused old line h = record {
   holds = simp (lt-leb longestLine (length old) h);
@@ -31,7 +31,7 @@ refused old line h = record {
 }
 
 -- a line stored from the part's start on
-pub stored : {old line new : List ℕ} {r : ℕ} → longestLine ≤ length old → length line ≤ longestLine → Put old 0 line new r → Answered old line new r
+pub stored : {old line new : List ℕ} {r : ℕ} → longestLine ≤ length old → length line ≤ longestLine → Put old 0 line new r → LineStored old line new r
 unfolding fitting
 stored {old = old} {line = line} h k p = record {
   holds = simp (le-leb longestLine (length old) h) (p .holds ∙ sets-eq line old 0 (omega arith) ∙ simp zero-add);

@@ -22,7 +22,7 @@ abbrev pub over : List ℕ → List ℕ → List ℕ
 over text part = text ++ drop (length text) part
 
 -- what fits stands at the part's start, and its bytes are counted
-pub record Answered (part line after : List ℕ) (count : ℕ) : Type 0 where
+pub record LineStored (part line after : List ℕ) (count : ℕ) : Type 0 where
   pub holds : after ≡ over (fitting part line) part
   pub counts : count ≡ length (fitting part line)
   pub within : count ≤ length part

@@ -4,7 +4,7 @@ ghost use Prim.Native.Nat.{_+_, _≤_, _<_};
 ghost use lib.ListN.{length};
 ghost use Rattle.bus_text.specs.TextBytes.{digitByte};
 ghost use Rattle.bus_text.specs.AnswerLine.{decimalOf, field, answerLine};
-ghost use Rattle.bus_text.specs.Stored.{Put, Answered};
+ghost use Rattle.bus_text.specs.Stored.{Put, LineStored};
 
 fn put_byte(out: &mut [u8], at: usize, byte: u8) -> usize
     requires { ⌜ at < length (now out) ⌝ }
@@ -48,7 +48,7 @@ pub const LONGEST: usize = 33;
 // Stores an answer line at the start of a lent part, and returns how many bytes it has.
 // A part too short for the longest line stays as it is, and 0 is returned.
 pub fn put_answer(out: &mut [u8], count: u64, answer: u8, value: u8, sum: u8) -> usize
-    ensures { λ r. ⌜ Answered (now (out .entry)) (answerLine count answer value sum) (now (out .exit)) r ⌝ }
+    ensures { λ r. ⌜ LineStored (now (out .entry)) (answerLine count answer value sum) (now (out .exit)) r ⌝ }
 {
     if out.len() < LONGEST {
         return 0;

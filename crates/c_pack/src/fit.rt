@@ -1,26 +1,26 @@
 // A chain fitted from a pack file; a refused file leaves the record as it was.
 use crate::Coded;
 use chain_record::Chain;
-use pack_read::read::Answer;
+use pack_read::read::Reading;
 ghost use mathlib.Core.Path.{_≡_};
 ghost use Rattle.c_pack.specs.Fit.{fittedOr, readCode, lentFit};
 
-fn fitted_or(answer: Answer, found: Chain, c: Chain) -> Chain
+fn fitted_or(answer: Reading, found: Chain, c: Chain) -> Chain
     ensures { λ r. ⌜ r ≡ fittedOr answer found c ⌝ }
 {
     match answer {
-        Answer::Whole => found,
-        Answer::Refused(_, _) => c,
+        Reading::Whole => found,
+        Reading::Refused(_, _) => c,
     }
 }
 
 // A refusal's number, and its place in the high half; of a file that is taken, n in the second byte.
-pub(crate) fn read_code(answer: Answer, n: u8) -> u64
+pub(crate) fn read_code(answer: Reading, n: u8) -> u64
     ensures { λ r. ⌜ r ≡ readCode answer n ⌝ }
 {
     match answer {
-        Answer::Whole => n as u64 * Coded::SECOND_BYTE,
-        Answer::Refused(why, place) => pack_read::number(why) as u64
+        Reading::Whole => n as u64 * Coded::SECOND_BYTE,
+        Reading::Refused(why, place) => pack_read::number(why) as u64
             + place.0 as u64 * Coded::HIGH_HALF,
     }
 }

@@ -1,8 +1,6 @@
 -- Decisions: the lines taken, the states that change, the word carried out, and what is answered or touched.
 use mathlib.Core.Bool.{Bool}
-use lib.Dec.{eqb}
 use Rattle.counts.specs.Choice.{if_then_else_}
-use Rattle.pack_read.specs.declared.Pack.{Pack}
 use Rattle.drive_record.specs.declared.State.{State}
 use Rattle.drive_record.specs.declared.Outcome.{Outcome}
 use Rattle.drive_record.specs.declared.Outcome.the-variants as outcome

@@ -7,8 +7,8 @@ use Rattle.counts.specs.Choice.{if_then_else_}
 use Rattle.counts.specs.Slots.{mapWith}
 use Rattle.pack_read.specs.declared.Pack.{Pack}
 use Rattle.pack_read.specs.declared.read.Packs.{Packs}
-use Rattle.pack_read.specs.declared.read.Answer.{Answer}
-use Rattle.pack_read.specs.declared.read.Answer.the-variants.{Whole, Refused}
+use Rattle.pack_read.specs.declared.read.Reading.{Reading}
+use Rattle.pack_read.specs.declared.read.Reading.the-variants.{Whole, Refused}
 use Rattle.pack_read.specs.Packs.{longestFile}
 use Rattle.pack_read.specs.Read.{readAll}
 use Rattle.drive_record.specs.declared.State.{State}
@@ -30,7 +30,7 @@ abbrev pub blankStates : List State
 blankStates = replicate 7 blankState
 
 -- a refused file counts as empty; a file that reads whole is never longer than the longest
-unfoldable pub endOf : Answer → ℕ → ℕ
+unfoldable pub endOf : Reading → ℕ → ℕ
 endOf Whole n = if ltb longestFile n then 0 else n
 endOf (Refused why place) n = 0
 

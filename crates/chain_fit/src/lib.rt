@@ -6,7 +6,7 @@ use drive_record::State;
 use lines::Lines;
 use pack_read::Pack;
 use pack_read::read;
-use pack_read::read::Answer;
+use pack_read::read::Reading;
 ghost use mathlib.Core.Path.{_≡_};
 ghost use lib.ListN.{length};
 ghost use Rattle.counts.specs.Slots.{mapWith};
@@ -14,7 +14,7 @@ ghost use Rattle.chain_fit.specs.Fresh.{lowLines, freshSlot, blankStates
 
 // A chain, or why its file is refused and where; the chain is then the empty one.
 pub struct Fitted {
-    pub answer: Answer,
+    pub answer: Reading,
     pub chain: Chain,
 }
 
@@ -62,17 +62,17 @@ fn fresh_states(packs: [Pack; 7]) -> [State; 7]
 }
 
 // The length of a file that is taken; a refused one counts as empty.
-fn end_of(answer: Answer, n: usize) -> u32
+fn end_of(answer: Reading, n: usize) -> u32
     ensures { λ r. ⌜ r ≡ endOf answer n ⌝ }
 {
     match answer {
-        Answer::Whole => {
+        Reading::Whole => {
             if n > Pack::LONGEST {
                 return 0;
             }
             n as u32
         }
-        Answer::Refused(_, _) => 0,
+        Reading::Refused(_, _) => 0,
     }
 }
 

@@ -1,4 +1,4 @@
-// The chain record: up to seven drives on one control cable, the selected one, and a decision put into the record.
+// The chain record: up to seven drives on one control cable, and the selected one.
 pub mod slots;
 
 use counts::Place;

@@ -1,7 +1,7 @@
 -- "A record is malformed when ..": the clauses on one drive, said of a record that is not.
 use mathlib.Core.Bool.{Bool, false, _||_, not}
 use mathlib.Core.List.{List, [], _∷_}
-use lib.Dec.{leb, eqb}
+use lib.Dec.{eqb}
 use Rattle.counts.specs.Choice.{if_then_else_}
 use Rattle.counts.specs.Tests.{allOf}
 use Rattle.pack_profile.specs.declared.Profile.{Profile}

@@ -1,6 +1,6 @@
 -- A word given to a slot keeps a sound chain sound, and alters nothing but the state of that slot.
 use mathlib.Core.Path.{_≡_, refl}
-use mathlib.Core.Bool.{Bool, true, not}
+use mathlib.Core.Bool.{true, not}
 use Prim.Native.Nat.{ℕ}
 use lib.Dec.{ltb, eqb}
 use borrow.Author.Tests.{not-false}
@@ -10,7 +10,7 @@ use Rattle.drive_record.specs.declared.State.{State}
 use Rattle.word_rules.specs.Rules.{plainOf}
 use Rattle.chain_record.specs.declared.Chain.{Chain}
 use Rattle.chain_record.specs.Record.{slotPack, slotState}
-use Rattle.chain_apply.specs.Apply.{putOf, changedOf, applied}
+use Rattle.chain_apply.specs.Apply.{changedOf, applied}
 use Rattle.chain_sound.specs.SoundChain.{chainSoundB}
 use Rattle.chain_sound.proofs.SoundSlots.{sound}
 use Rattle.law_drive.proofs.WordRules.{plain-keeps}

@@ -8,7 +8,7 @@ use borrow.Author.Tests.{eq-eqb}
 use lib.ListN.{length}
 use Rattle.counts.specs.Bytes.{Bytes}
 use Rattle.counts.specs.Choice.{if_then_else_}
-use Rattle.pack_read.specs.declared.read.Answer.the-variants.{Whole}
+use Rattle.pack_read.specs.declared.read.Reading.the-variants.{Whole}
 use Rattle.pack_read.specs.Read.{readAll}
 use Rattle.handshake.specs.Edges.{lateB}
 use Rattle.drive_record.specs.declared.Outcome.{Outcome}

@@ -23,8 +23,8 @@ use Rattle.pack_read.specs.declared.Refusal.the-variants.{Large}
 use Rattle.pack_read.specs.declared.read.Packs.{Packs}
 use Rattle.pack_read.specs.declared.read.Last.{Last}
 use Rattle.pack_read.specs.declared.read.Last.the-variants as last
-use Rattle.pack_read.specs.declared.read.Answer.{Answer}
-use Rattle.pack_read.specs.declared.read.Answer.the-variants.{Whole, Refused}
+use Rattle.pack_read.specs.declared.read.Reading.{Reading}
+use Rattle.pack_read.specs.declared.read.Reading.the-variants.{Whole, Refused}
 use Rattle.pack_read.specs.Packs.{longestFile, noPack, noPacks, fittedPack}
 use Rattle.pack_read.specs.Read.{lastPack, refusedAt, andInFront, readBack, readAll}
 use Rattle.pack_read.specs.File.{Contents, packBytes, fileOf, firstSlot, Standing, slotsOf}
@@ -163,7 +163,7 @@ made-drives l slots m =
 -- the chain of a file that reads whole: sound, and as long as the file
 module _ (file : List ℕ) (small : Bytes file) (w : readAll file .answer ≡ Whole) where
   from : Made file 8 noPacks (readAll file .slots)
-  from = file-read file (readAll file .slots) small (ap (λ (a : Answer). record { answer = a; slots = readAll file .slots }) w)
+  from = file-read file (readAll file .slots) small (ap (λ (a : Reading). record { answer = a; slots = readAll file .slots }) w)
 
   short : length file ≤ longestFile
   unfolding readAll
@@ -205,7 +205,7 @@ empty-all l = either-way Empty (ltb longestFile (length l)) (λ ne. refl) (empty
 abbrev pub emptyChain : Chain
 emptyChain = record { packs = noPacks; states = blankStates; lines = lowLines; length = record { 0 = 0 } }
 
-end-refused : (a : Answer) (n : ℕ) → (a ≡ Whole → ⊥) → endOf a n ≡ 0
+end-refused : (a : Reading) (n : ℕ) → (a ≡ Whole → ⊥) → endOf a n ≡ 0
 unfolding endOf
 end-refused Whole n ne = absurd (ne refl)
 end-refused (Refused why at) n ne = refl
@@ -222,6 +222,6 @@ empty-sound = refl
 pub fitted-sound : (file : List ℕ) → Bytes file → chainSoundB (freshFit file .chain) ≡ true
 fitted-sound file small = by (readAll file .answer) refl
   where
-    by : (a : Answer) → readAll file .answer ≡ a → chainSoundB (freshFit file .chain) ≡ true
+    by : (a : Reading) → readAll file .answer ≡ a → chainSoundB (freshFit file .chain) ≡ true
     by Whole e = whole-sound file small e
     by (Refused why at) e = rw (refused-empty file (λ w. never (cc))) empty-sound

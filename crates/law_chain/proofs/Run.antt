@@ -6,7 +6,7 @@ use lib.ListN.{length, set, length-set}
 use Rattle.counts.specs.declared.Place.{Place}
 use Rattle.counts.specs.Bytes.{Bytes}
 use Rattle.pack_read.specs.declared.Pack.{Pack}
-use Rattle.pack_read.specs.declared.read.Answer.the-variants.{Whole}
+use Rattle.pack_read.specs.declared.read.Reading.the-variants.{Whole}
 use Rattle.pack_read.specs.Read.{readAll}
 use Rattle.chain_record.specs.declared.Chain.{Chain}
 use Rattle.chain_decision.specs.declared.Deed.{Deed}

@@ -12,7 +12,7 @@ use Rattle.event.specs.declared.Answer.the-variants.{Taken, Fault}
 use Rattle.event.specs.Answer.{answerNumber}
 use Rattle.law_exchange.specs.Host.{ask, Sending, Going, going, exchanged, sends, raises, replies, goesOn, exchanges}
 use Rattle.law_exchange.specs.Waits.{levelOf, sentLevel, fetchLevel, sentWord, bitsOf, timeOf, sentTime, fetchTime, sentCount, fetchCount, InTime}
-use Rattle.law_exchange.specs.Unit.{Carried, Rules, Wired, wired, unitAfterWord, unit}
+use Rattle.law_exchange.specs.Unit.{UnitCarried, Rules, Wired, wired, unitAfterWord, unit}
 use Rattle.law_exchange.specs.UnitAtOnce.{zeros, rests, unitFallAnswer, unitRefused, done, carries, unitAtOnce}
 use Rattle.law_exchange.proofs.UnitLaws.{Laws}
 use Rattle.law_exchange.proofs.Steps.{bitsIn, first-rise, busy-rise, none-fall}
@@ -55,7 +55,7 @@ module _ {B : Type 0} (R : Rules B) (L : Laws R) (w : Sending) (b : B) (l : ℕ)
   takes q = rw (q, first-rise l₁)
 
   module _ (fit : InTime w) (one : l ≤ 1) (q : R .calm b₁ ≡ true) where
-    abbrev out : Carried B
+    abbrev out : UnitCarried B
     out = R .carry (sentWord l w) b₁
 
     abbrev last : ℕ

@@ -10,7 +10,7 @@ use lib.Pow.{pow-mono}
 use Rattle.handshake.specs.Transfer.{wordBits, patience}
 use Rattle.law_exchange.specs.Host.{ask, Still, waits, sets, Bit, high, Going, going, sends, raises, lowers, sendsAll}
 use Rattle.law_exchange.specs.Waits.{levelOf, leftBy, sentLevel, levelsAt, numberFrom, timeOf, sentTime, sentCount, BitsFit}
-use Rattle.law_exchange.specs.Unit.{Carried, Rules, Wired, wired, unitAfterWord, unit}
+use Rattle.law_exchange.specs.Unit.{UnitCarried, Rules, Wired, wired, unitAfterWord, unit}
 use Rattle.law_exchange.specs.UnitAtOnce.{zeros, unitFallAnswer}
 use Rattle.law_exchange.proofs.UnitLaws.{Laws}
 use Rattle.law_exchange.proofs.Steps.{bitsIn, next-rise, next-fall, word-fall, in-wait}
@@ -60,7 +60,7 @@ module _ {B : Type 0} (R : Rules B) (L : Laws R) (b : B) (calm : R .calm b ≡ t
       ∙ falls k v (0 + timeOf xs) (levelOf c xs) (e + timeOf xs) (n + length xs) l
 
   -- the word carried out
-  abbrev pub carried-at : Carried B → ℕ → ℕ → ℕ → Going (Wired B)
+  abbrev pub carried-at : UnitCarried B → ℕ → ℕ → ℕ → Going (Wired B)
   carried-at o c e n = going (wired (o .body) (unitAfterWord (o .told)) c 0 e) (unitFallAnswer o ∷ zeros n [])
 
   carries-out : (v w c e n : ℕ) → sends (unit R) (ask 0) (taking-at wordBits v 1 w c 1 e n) ≡ carried-at (R .carry v b) c e n
@@ -72,7 +72,7 @@ module _ {B : Type 0} (R : Rules B) (L : Laws R) (b : B) (calm : R .calm b ≡ t
       ap (sends (unit R) (ask 0)) (open-goes R L (bitsIn wordBits v 1) (in-wait wordBits v 1) xs 0 b c 1 e n [] calm (omega arith))
       ∙ carries-out v (0 + timeOf xs) (levelOf c xs) (e + timeOf xs) (n + length xs)
 
-  recounted : (o : Carried B) (c e f m n : ℕ) → e ≡ f → m ≡ n → carried-at o c e m ≡ carried-at o c f n
+  recounted : (o : UnitCarried B) (c e f m n : ℕ) → e ≡ f → m ≡ n → carried-at o c e m ≡ carried-at o c f n
   recounted o c e f m n p q = λ i. carried-at o c (p i) (q i)
 
   -- a bit is up, and the others behind it are still to come

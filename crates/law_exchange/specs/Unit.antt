@@ -16,7 +16,7 @@ use Rattle.event.specs.Answer.{answerNumber}
 use Rattle.law_exchange.specs.Host.{Signal, level, ask, micros, Cable}
 
 -- what a word leaves of a unit, its response if it has one, and whether a fault rule applied
-pub record Carried (B : Type 0) : Type 0 where
+pub record UnitCarried (B : Type 0) : Type 0 where
   pub body : B
   pub told : Option ℕ
   pub fails : Bool
@@ -26,7 +26,7 @@ pub record Rules (B : Type 0) : Type 0 where
   pub pass : ℕ → B → B  -- microseconds pass
   pub calm : B → Bool  -- no timer runs
   pub fault : B → B  -- "bit 6"
-  pub carry : ℕ → B → Carried B  -- a word with its parity, seventeen bits as a number
+  pub carry : ℕ → B → UnitCarried B  -- a word with its parity, seventeen bits as a number
 
 -- the unit, the lines that the host moves, and the microseconds since it began
 pub record Wired (B : Type 0) : Type 0 where
@@ -51,7 +51,7 @@ unitAfterWord none = noTransfer
 unitAfterWord (some r) = respondingWith r
 
 -- "5 a fault rule applied", else "0 taken"
-abbrev pub unitCarriedOut : {B : Type 0} → Carried B → Met B
+abbrev pub unitCarriedOut : {B : Type 0} → UnitCarried B → Met B
 unitCarriedOut c = record { body = c .body; transfer = unitAfterWord (c .told); answer = if c .fails then answerNumber Fault else answerNumber Taken }
 
 module _ {B : Type 0} (R : Rules B) where

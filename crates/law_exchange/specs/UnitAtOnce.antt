@@ -9,7 +9,7 @@ use Rattle.event.specs.declared.Answer.the-variants.{Taken, Fault}
 use Rattle.event.specs.Answer.{answerNumber}
 use Rattle.law_exchange.specs.Host.{Sending, Exchanged, going, exchanged}
 use Rattle.law_exchange.specs.Waits.{levelOf, sentLevel, fetchLevel, sentWord, bitsOf, timeOf, sentTime, fetchTime, sentCount, fetchCount}
-use Rattle.law_exchange.specs.Unit.{Carried, Rules, Wired, wired}
+use Rattle.law_exchange.specs.Unit.{UnitCarried, Rules, Wired, wired}
 
 -- so many answers "0 taken", on top of those given before
 abbrev pub zeros : ℕ → List ℕ → List ℕ
@@ -21,7 +21,7 @@ abbrev pub rests : {B : Type 0} → B → ℕ → ℕ → Wired B
 rests b command elapsed = wired b noTransfer command 0 elapsed
 
 -- the 17th fall's answer: "5 a fault rule applied" where the word faults
-abbrev pub unitFallAnswer : {B : Type 0} → Carried B → ℕ
+abbrev pub unitFallAnswer : {B : Type 0} → UnitCarried B → ℕ
 unitFallAnswer c = if c .fails then answerNumber Fault else answerNumber Taken
 
 module _ (w : Sending) (l : ℕ) where
@@ -36,18 +36,18 @@ module _ (w : Sending) (l : ℕ) where
   abbrev pub time : ℕ
   time = sentTime (w .first) (w .more)
 
-  abbrev pub unitAnswers : {B : Type 0} → Carried B → List ℕ
+  abbrev pub unitAnswers : {B : Type 0} → UnitCarried B → List ℕ
   unitAnswers c = unitFallAnswer c ∷ zeros (sentCount (w .first) (w .more)) []
 
   -- the word carried out at its 17th fall; a response is told bit by bit, its parity last
-  abbrev pub done : {B : Type 0} → Carried B → Option ℕ → Exchanged (Wired B)
+  abbrev pub done : {B : Type 0} → UnitCarried B → Option ℕ → Exchanged (Wired B)
   done c none = exchanged (going (rests (c .body) unitLevel time) (unitAnswers c)) none
   done c (some r) =
       exchanged
       (going (rests (c .body) (fetchLevel unitLevel (w .gaps)) (time + fetchTime (w .gaps))) (zeros (fetchCount (w .gaps)) (unitAnswers c)))
       (some (bitsOf wordBits r))
 
-  abbrev pub carries : {B : Type 0} → Carried B → Exchanged (Wired B)
+  abbrev pub carries : {B : Type 0} → UnitCarried B → Exchanged (Wired B)
   carries c = done c (c .told)
 
 -- the waits in front of the first rise pass; the unit as it then is takes the word, or refuses it

@@ -27,7 +27,7 @@ use denote.Plain.{uint-lawful}
 use denote.Builtin.{u8, u64}
 use denote.Slice.{sliceTy, sliceVal, ShrSlice, Room}
 use denote.Ref.{RefT, MutRef}
-use denote.Steps.{opens, closes, owned, peeks, heard, nothing}
+use denote.Steps.{opens, closes, owned, peeks, heard}
 use denote.Struct.Steps.{spelt}
 use denote.Triple.Call.{calls-from}
 

@@ -25,7 +25,7 @@ use denote.Memory.{mem}
 use denote.Plain.{uint-lawful}
 use denote.Builtin.{u32, u64}
 use denote.Ref.{MutRef}
-use denote.Steps.{opens, closes, owned, peeks, heard, nothing}
+use denote.Steps.{opens, closes, owned, peeks, heard}
 use denote.Struct.Steps.{spelt}
 use denote.Triple.Call.{calls-from}
 

@@ -1,6 +1,4 @@
 -- The chain as the host meets it: every event decided and carried out on the record and its file.
-use Prim.Native.Nat.{ℕ}
-use mathlib.Core.List.{List}
 use lib.Dec.{eqb}
 use Rattle.handshake.specs.Transfer.{responding, statusLine}
 use Rattle.drive_record.specs.declared.State.{State}

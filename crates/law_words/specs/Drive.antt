@@ -13,7 +13,7 @@ use Rattle.word_rules.specs.declared.Carried as word
 use Rattle.word_rules.specs.declared.Told.{Told}
 use Rattle.word_rules.specs.declared.Told.the-variants.{Nothing, Word}
 use Rattle.word_rules.specs.Rules.{carryOf}
-use Rattle.law_exchange.specs.Unit.{Carried, Rules}
+use Rattle.law_exchange.specs.Unit.{UnitCarried, Rules}
 
 abbrev pub toldOf : Told → Option ℕ
 toldOf Nothing = none
@@ -24,7 +24,7 @@ isFault Done = false
 isFault Inhibited = false
 isFault Fault = true
 
-abbrev pub carriedBy : word.Carried → Carried Body
+abbrev pub carriedBy : word.Carried → UnitCarried Body
 carriedBy c = record { body = c .body; told = toldOf (c .told); fails = isFault (c .outcome) }
 
 abbrev pub drive : Profile → Rules Body

@@ -1,7 +1,7 @@
 -- Packs laid one behind the other read back as all of them.
 use Prim.Native.Nat.{ℕ, _+_, _≤_, _<_}
 use native.Mathlib.Omega.{arith}
-use mathlib.Core.Path.{_≡_, refl, sym, ap, ap₂, _∙_}
+use mathlib.Core.Path.{_≡_, refl, ap, ap₂, _∙_}
 use mathlib.Core.Bool.{true}
 use mathlib.Core.List.{List, [], _∷_, _++_, append-nil}
 use lib.ListN.{length, replicate, take, drop, length-append, length-replicate, length-drop, drop-of-length-le}
@@ -12,7 +12,7 @@ use Rattle.pack_profile.specs.Valid.{validB}
 use Rattle.pack_profile.proofs.FieldRanges.{ranges}
 use Rattle.pack_trailer.specs.Form.{trailerLength}
 use Rattle.pack_trailer.specs.TrailerBytes.{trailerOf}
-use Rattle.pack_read.specs.declared.read.Answer.the-variants as answer
+use Rattle.pack_read.specs.declared.read.Reading.the-variants as answer
 use Rattle.pack_read.specs.Packs.{longestFile, noPacks}
 use Rattle.pack_read.specs.Read.{readAll}
 use Rattle.pack_read.specs.File.{packBytes, fileOf, Standing, slotsOf}

@@ -26,7 +26,7 @@ use Rattle.pack_read.specs.declared.Refusal.the-variants.{Large}
 use Rattle.pack_read.specs.declared.read.Packs.{Packs}
 use Rattle.pack_read.specs.declared.read.Last.{Last}
 use Rattle.pack_read.specs.declared.read.Last.the-variants.{Found, Refused}
-use Rattle.pack_read.specs.declared.read.Answer.the-variants as answer
+use Rattle.pack_read.specs.declared.read.Reading.the-variants as answer
 use Rattle.pack_read.specs.Packs.{longestFile, noPacks, fittedPack}
 use Rattle.pack_read.specs.Read.{lastPack, refusedAt, andInFront, readBack, readAll}
 use Rattle.pack_lay.specs.Lay.{packLength, laidPack, laidBytes}

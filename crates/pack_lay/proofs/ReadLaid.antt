@@ -16,7 +16,7 @@ use Rattle.counts.proofs.Bytes.{four-back}
 use Rattle.pack_read.specs.declared.Pack.{Pack}
 use Rattle.pack_read.specs.declared.read.Packs.{Packs}
 use Rattle.pack_read.specs.declared.read.Last.the-variants.{Found}
-use Rattle.pack_read.specs.declared.read.Answer.the-variants as answer
+use Rattle.pack_read.specs.declared.read.Reading.the-variants as answer
 use Rattle.pack_read.specs.Packs.{longestFile, noPacks}
 use Rattle.pack_read.specs.Read.{verdictOf, checked, lastPack, readAll}
 use Rattle.pack_read.specs.File.{Contents, packBytes, fileOf, firstSlot, Standing, slotsOf}

@@ -25,7 +25,7 @@ use Rattle.pack_read.specs.declared.Refusal.the-variants.{Short, Distanc
 use Rattle.pack_read.specs.declared.read.Packs.{Packs}
 use Rattle.pack_read.specs.declared.read.Last.{Last}
 use Rattle.pack_read.specs.declared.read.Last.the-variants.{Found, Refused}
-use Rattle.pack_read.specs.declared.read.Answer.the-variants as answer
+use Rattle.pack_read.specs.declared.read.Reading.the-variants as answer
 use Rattle.pack_read.specs.Packs.{fittedPack}
 use Rattle.pack_read.specs.Read.{verdictOf, checked, lastPack, refusedAt, readBack}
 

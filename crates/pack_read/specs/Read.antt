@@ -17,7 +17,7 @@ use Rattle.pack_read.specs.declared.Refusal.the-variants.{Short, Distanc
 use Rattle.pack_read.specs.declared.read.Packs.{Packs}
 use Rattle.pack_read.specs.declared.read.Last.{Last}
 use Rattle.pack_read.specs.declared.read.Last.the-variants.{Found, Refused}
-use Rattle.pack_read.specs.declared.read.Answer.the-variants as answer
+use Rattle.pack_read.specs.declared.read.Reading.the-variants as answer
 use Rattle.pack_read.specs.Packs.{longestFile, noPacks, fittedPack}
 
 -- "then per pack", behind 30: the pack ends at n, the one behind it has the slot limit

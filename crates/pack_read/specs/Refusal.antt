@@ -2,8 +2,8 @@
 use Prim.Native.Nat.{ℕ}
 use Rattle.pack_read.specs.declared.Refusal.{Refusal}
 use Rattle.pack_read.specs.declared.Refusal.the-variants.{Short, Distance, Form, Field, Size, Order, Large, Room}
-use Rattle.pack_read.specs.declared.read.Answer.{Answer}
-use Rattle.pack_read.specs.declared.read.Answer.the-variants as answer
+use Rattle.pack_read.specs.declared.read.Reading.{Reading}
+use Rattle.pack_read.specs.declared.read.Reading.the-variants as answer
 
 abbrev pub refusalNumber : Refusal → ℕ
 refusalNumber Short = 30  -- "fewer than 44 bytes left"
@@ -16,10 +16,10 @@ refusalNumber Large = 36  -- "file over 2,147,483,647 bytes"
 refusalNumber Room = 37  -- "too little room"
 
 -- 0 where nothing is refused
-abbrev pub readNumber : Answer → ℕ
+abbrev pub readNumber : Reading → ℕ
 readNumber answer.Whole = 0
 readNumber (answer.Refused why place) = refusalNumber why
 
-abbrev pub readPlace : Answer → ℕ
+abbrev pub readPlace : Reading → ℕ
 readPlace answer.Whole = 0
 readPlace (answer.Refused why place) = place .0

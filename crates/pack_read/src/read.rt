@@ -10,34 +10,34 @@ ghost use Rattle.pack_read.specs.Refusal.{readNumber, readPlace};
 ghost use Rattle.pack_read.specs.Packs.{noPacks, fittedPack};
 ghost use Rattle.pack_read.specs.Read.{verdictOf, checked, lastPack, refusedAt, readBack, readAll};
 
-pub enum Answer {
+pub enum Reading {
     Whole,
     Refused(Refusal, Place),
 }
 
 // Document 01's number of an answer; 0 where nothing is refused.
-pub fn number(a: Answer) -> u8
+pub fn number(a: Reading) -> u8
     ensures { λ r. ⌜ r ≡ readNumber a ⌝ }
 {
     match a {
-        Answer::Whole => 0,
-        Answer::Refused(why, _) => crate::number(why),
+        Reading::Whole => 0,
+        Reading::Refused(why, _) => crate::number(why),
     }
 }
 
 // The place that an answer names; 0 where nothing is refused.
-pub fn place(a: Answer) -> u32
+pub fn place(a: Reading) -> u32
     ensures { λ r. ⌜ r ≡ readPlace a ⌝ }
 {
     match a {
-        Answer::Whole => 0,
-        Answer::Refused(_, at) => at.0,
+        Reading::Whole => 0,
+        Reading::Refused(_, at) => at.0,
     }
 }
 
 // What reading found: each pack at its slot, or nothing where the file is refused.
 pub struct Packs {
-    pub answer: Answer,
+    pub answer: Reading,
     pub slots: [Pack; 7],
 }
 
@@ -108,7 +108,7 @@ fn refused(why: Refusal, end: u32) -> Packs
     ensures { λ r. ⌜ r ≡ refusedAt why end ⌝ }
 {
     Packs {
-        answer: Answer::Refused(why, Place(end)),
+        answer: Reading::Refused(why, Place(end)),
         slots: empty(),
     }
 }
@@ -135,7 +135,7 @@ fn read_back(file: &[u8], limit: u8, found: [Pack; 7]) -> Packs
     let n = file.len();
     if n == 0 {
         return Packs {
-            answer: Answer::Whole,
+            answer: Reading::Whole,
             slots: found,
         };
     }

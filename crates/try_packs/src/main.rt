@@ -12,7 +12,7 @@ use pack_lay::Laid;
 use pack_profile::Profile;
 use pack_profile::Shape;
 use pack_read::read;
-use pack_read::read::Answer;
+use pack_read::read::Reading;
 ghost use Prim.Native.Nat.{_≤_};
 ghost use lib.ListN.{length};
 
@@ -52,12 +52,12 @@ fn front(file: &[u8], n: usize) -> &[u8] {
     &file[..n]
 }
 
-fn say_answer(answer: Answer) {
+fn say_answer(answer: Reading) {
     say_number(read::number(answer) as u32);
     say_number(read::place(answer));
     match answer {
-        Answer::Whole => say(b" packs"),
-        Answer::Refused(_, _) => {}
+        Reading::Whole => say(b" packs"),
+        Reading::Refused(_, _) => {}
     }
 }
 

@@ -1,4 +1,4 @@
-// Words sent to drives, and what came: one line each, held to crates/worked/stdout, which is worked out from the papers.
+// Words sent to drives, and what came: one line each, held to crates/try_worked/stdout, which is worked out from the papers.
 mod cases;
 mod drives;
 mod lines;

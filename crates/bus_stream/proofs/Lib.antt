@@ -1,0 +1,5 @@
+pub mod Output
+pub mod Running
+pub mod Turning
+pub mod Cut
+pub mod Whole

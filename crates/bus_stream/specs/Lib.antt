@@ -1,0 +1,4 @@
+pub mod Stream
+pub mod EventLines
+pub mod Parts
+pub mod Kept
