@@ -43,6 +43,9 @@ impl Dice {
     }
 }
 
+/// How often each answer came, by its number.
+type Tally = std::collections::BTreeMap<u8, u64>;
+
 // ---- chains
 
 fn some_time(dice: &mut Dice, most: u32) -> u32 {
@@ -73,6 +76,12 @@ fn any_profile(dice: &mut Dice, slot: u8) -> twin::Profile {
         _ => 60_000,
     } as u16;
     let sectoring = dice.pick(&[4, 2, 1]) as u16;
+    // small media, so that many events go by; one in sixty is of a real drive's shape
+    let (cylinders, heads, track) = if dice.one_in(60) {
+        [(64, 16, 4_095), (1_250, 1, 4_095), (300, 2, 4_200), (2, 16, 40_960)][dice.upto(3) as usize]
+    } else {
+        (dice.pick(&[1, 1, 2, 3]), dice.pick(&[1, 1, 1, 2]), dice.pick(&[4_095, 4_095, 4_096, 4_200]))
+    };
     twin::Profile {
         slot,
         general: dice.pick(&[0x400, 0x200, 0x100]) as u16
@@ -80,10 +89,10 @@ fn any_profile(dice: &mut Dice, slot: u8) -> twin::Profile {
             | sectoring
             | if switch > 15 { 0x10 } else { 0 }
             | (dice.upto(65_535) as u16 & 0x6828),
-        cylinders: dice.pick(&[1, 1, 2, 3]) as u16,
-        heads: dice.pick(&[1, 1, 1, 2]) as u8,
+        cylinders: cylinders as u16,
+        heads: heads as u8,
         vendor: dice.upto(255) as u8,
-        track: dice.pick(&[4_095, 4_095, 4_096, 4_200]) as u16,
+        track: track as u16,
         sector: if sectoring == 4 { 0 } else { dice.between(162, 4_095) as u16 },
         gap: dice.upto(255) as u8,
         sync: dice.upto(255) as u8,
@@ -134,7 +143,11 @@ fn pass(dice: &mut Dice, events: &mut Vec<Event>) {
 /// A word's seventeen bits, most with their odd parity.
 fn some_word(dice: &mut Dice) -> u32 {
     let word = match dice.upto(8) {
-        0 => dice.upto(5),                            // a near seek
+        // a seek, most of them near
+        0 => {
+            let far = dice.pick(&[5, 5, 5, 1_300]);
+            dice.upto(far)
+        }
         1 => 0x1000,                                  // recalibrate
         2 => 0x2000,                                  // status
         3 => 0x3000 | dice.upto(15) << 8,             // configuration
@@ -352,7 +365,7 @@ fn report(profiles: &[twin::Profile], events: &[Event]) {
 // ---- records, words, packs
 
 /// A record with some bytes changed: refused with 22 and left as it was where it stands for nothing, else as the twin does.
-fn changed_record(dice: &mut Dice, pair: &Pair) -> bool {
+fn changed_record(dice: &mut Dice, pair: &Pair) -> Option<u8> {
     const SIZE: usize = std::mem::size_of::<esdi::Chain>();
     let mut record = pair.record;
     let bytes = unsafe { &mut *(&mut record as *mut esdi::Chain as *mut [u8; SIZE]) };
@@ -370,8 +383,11 @@ fn changed_record(dice: &mut Dice, pair: &Pair) -> bool {
     let before = record;
     let ours = esdi::event(&mut record, &mut file, event.0, event.1, event.2);
     let (theirs, after, twins) = match esdi::chain_of(&before) {
-        None if twin::refusal(&pair.chain, pair.file.len(), event.0, event.1, event.2).map_or(true, |n| n > 21) => ((22, 0), before, pair.file.clone()),
-        None => ((ours.0, 0), before, pair.file.clone()),
+        // 20 and 21 are tried before the record is looked at
+        None => {
+            let number = twin::refusal(&pair.chain, pair.file.len(), event.0, event.1, event.2).filter(|&n| n < 22).unwrap_or(22);
+            ((number, 0), before, pair.file.clone())
+        }
         Some(mut chain) => {
             let mut twins = pair.file.clone();
             let answer = twin::step(&mut chain, &mut twins, event.0, event.1, event.2);
@@ -387,10 +403,10 @@ fn changed_record(dice: &mut Dice, pair: &Pair) -> bool {
         }
     };
     if ours == theirs && record == after && file == twins {
-        return true;
+        return Some(ours.0);
     }
     println!("DIFFERENCE on the record {:?}\nevent {:?}: {:?}, the twin's {:?}\nrecord after {:?}", before, event, ours, theirs, record);
-    false
+    None
 }
 
 /// A lent file of another length: refused with 23, behind 20 and 21; record and file are left.
@@ -507,8 +523,8 @@ fn large() -> bool {
     // PROT_READ; MAP_PRIVATE, MAP_ANONYMOUS, MAP_NORESERVE
     let at = unsafe { mmap(std::ptr::null_mut(), length, 1, 0x2 | 0x20 | 0x4000, -1, 0) };
     if at as isize == -1 {
-        println!("2 GiB: no room for it here");
-        return true;
+        println!("FAILED: a file of {} bytes could not be mapped here, so 36 was not tried", length);
+        return false;
     }
     let file = unsafe { std::slice::from_raw_parts(at, length) };
     let mut record = esdi::empty();
@@ -523,7 +539,7 @@ fn run() -> bool {
     let number = |i: usize, other: u64| arguments.get(i).map_or(other, |s| s.parse().expect("a number"));
     let (most, mut dice) = (number(0, 10_000_000), Dice(number(1, 1)));
     let (mut events, mut records, mut words, mut files, mut lays) = (0u64, 0u64, 0u64, 0u64, 0u64);
-    let (mut answers, mut lengths) = (std::collections::BTreeMap::new(), std::collections::BTreeMap::new());
+    let (mut answers, mut lengths, mut changed) = (Tally::new(), Tally::new(), Tally::new());
     while events < most {
         let profiles = some_profiles(&mut dice);
         let sequence = some_events(&mut dice, &profiles);
@@ -537,7 +553,11 @@ fn run() -> bool {
                 }
             }
             if i % 16 == 0 {
-                if !changed_record(&mut dice, &pair) || !word_at_once(&mut dice, &pair) {
+                match changed_record(&mut dice, &pair) {
+                    Some(answer) => *changed.entry(answer).or_insert(0u64) += 1,
+                    None => return false,
+                }
+                if !word_at_once(&mut dice, &pair) {
                     return false;
                 }
                 match other_length(&mut dice, &pair) {
@@ -557,8 +577,20 @@ fn run() -> bool {
     }
     println!("{} events, {} records with bytes changed, {} words at once, {} pack files, {} packs laid: 0 differences", events, records, words, files, lays);
     println!("answers to events, by number: {:?}", answers);
+    println!("answers on records with bytes changed: {:?}", changed);
     println!("answers over a file of another length: {:?}", lengths);
-    large()
+    large() & all_seen(&answers, &changed, &lengths)
+}
+
+/// Every number that an event can be answered has come, so that none went untried.
+fn all_seen(answers: &Tally, changed: &Tally, lengths: &Tally) -> bool {
+    let never: Vec<u8> = [0, 1, 2, 3, 4, 5, 20, 21, 24, 25].into_iter().filter(|n| !answers.contains_key(n)).collect();
+    let refused = changed.contains_key(&22) && lengths.contains_key(&23);
+    if never.is_empty() && refused {
+        return true;
+    }
+    println!("FAILED: never answered: {:?}{}; try more events", never, if refused { "" } else { ", 22 or 23" });
+    false
 }
 
 #[cfg(not(plain_main))]
