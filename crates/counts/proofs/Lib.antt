@@ -5,4 +5,3 @@ pub mod Loops
 pub mod First
 pub mod Bytes
 pub mod Ones
-pub mod Tight

@@ -1,1 +1,3 @@
 pub mod SlotWords
+pub mod Waiting
+pub mod Benched

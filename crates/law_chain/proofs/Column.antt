@@ -7,8 +7,7 @@ use Prim.Native.Nat.{ℕ, _-_, _<_}
 use native.Mathlib.Omega.{arith}
 use borrow.Author.Tests.{eqb-true, not-false}
 use lib.Dec.{eqb}
-use lib.ListN.{length, getD, set}
-use lib.Seq.{set-getD}
+use lib.ListN.{length}
 use Rattle.counts.specs.declared.Position.{Position}
 use Rattle.counts.specs.Choice.{if_then_else_}
 use Rattle.counts.proofs.Choice.{by-test, either-way, never}
@@ -16,7 +15,6 @@ use Rattle.drive_record.specs.declared.State.{State}
 use Rattle.handshake.specs.Edges.{lateB}
 use Rattle.drive_record.specs.declared.Outcome.{Outcome}
 use Rattle.drive_record.specs.declared.Outcome.the-variants.{Done, Inhibited, Fault}
-use Rattle.drive_record.specs.State.{blankState}
 use Rattle.drive_gates.specs.Gates.{readFalls}
 use Rattle.drive_rules.specs.DriveLeft.{leftOf}
 use Rattle.event.specs.declared.Answer.the-variants as answer
@@ -28,7 +26,7 @@ use Rattle.lines.specs.declared.Lines.{Lines}
 use Rattle.chain_record.specs.declared.Chain.{Chain}
 use Rattle.chain_decision.specs.declared.Decision.{Decision}
 use Rattle.chain_record.specs.declared.Seen.{Seen}
-use Rattle.chain_record.specs.Record.{slotB, slotState, lookOf}
+use Rattle.chain_record.specs.Record.{lookOf}
 use Rattle.chain_decide.specs.Levels.{linesAfter, ruleOf}
 use Rattle.chain_decision.specs.Decision.{outcomeAnswer}
 use Rattle.chain_decision.specs.Deeds.{saidOf, fileAfter}
@@ -40,18 +38,12 @@ use Rattle.chain_sound.specs.SoundChain.{chainSoundB}
 use Rattle.chain_sound.proofs.SoundSlots.{cell-in-file}
 use Rattle.chain_judge.specs.Judge.{allowedOf, judgedOf}
 use Rattle.chain_step.specs.Step.{stepOf, stepFile}
+use Rattle.law_chain.specs.OnlyMet.{OnlyMet}
 use Rattle.law_chain.specs.Column.{metPlace, Leaves}
 use Rattle.chain_decide.proofs.Walk.{Cases, walk}
+use Rattle.law_chain.proofs.Drives.{put-back}
+use Rattle.law_chain.proofs.Meeting.{only-cases}
 use Rattle.law_chain.proofs.Outcomes.{Unlatched, write-unlatched, read-unlatched, met-acts, left-acts, rises-acts, falls-acts, left-done}
-
--- putting a slot's own state changes nothing
-put-back : (states : List State) (slot : ℕ) → putOf states slot (slotState states slot) ≡ states
-unfolding putOf slotState
-put-back states slot = by (slotB slot)
-  where
-    by : (t : Bool) → (if t then set states (slot - 1) (if t then getD states (slot - 1) blankState else blankState) else states) ≡ states
-    by true = set-getD states (slot - 1) blankState
-    by false = refl
 
 -- where the rule that a signal meets is inhibited, the drive is as it was
 pub rule-unlatched : (d : Seen) (l : Lines) (e : Event) → Unlatched (d .state) (ruleOf d l e)
@@ -80,49 +72,54 @@ module _ (c : Chain) (file : List ℕ) (h : chainSoundB c ≡ true) (n : length 
   with states m = record { packs = c .packs; states = states; lines = m; length = c .length }
 
   ruled : (e : Event) (o : Outcome) (s : State) → (o ≡ Inhibited → s ≡ d .state) → linesAfter e l .select ≡ l .select
+      → OnlyMet e c (with (putOf (c .states) (linesAfter e l .select) s) (linesAfter e l))
       → Leaves e c file (outcomeAnswer o) (with (putOf (c .states) (linesAfter e l .select) s) (linesAfter e l)) file
   unfolding lookOf
-  ruled e Done s i q = refl
-  ruled e Fault s i q = refl
-  ruled e Inhibited s i q = (ap (λ (states : List State). with states (linesAfter e l)) (rw (i refl, q) (put-back (c .states) (l .select))), refl)
+  ruled e Done s i q only = (only, refl)
+  ruled e Fault s i q only = (only, refl)
+  ruled e Inhibited s i q only = (ap (λ (states : List State). with states (linesAfter e l)) (rw (i refl, q) (put-back (c .states) (l .select))), refl)
 
   -- a rule that inhibits nothing
-  acting : (e : Event) (o : Outcome) (chain : Chain) → (o ≡ Inhibited → ⊥) → Leaves e c file (outcomeAnswer o) chain file
-  acting e Done chain i = refl
-  acting e Fault chain i = refl
-  acting e Inhibited chain i = absurd (i refl)
+  acting : (e : Event) (o : Outcome) (chain : Chain) → (o ≡ Inhibited → ⊥) → OnlyMet e c chain → Leaves e c file (outcomeAnswer o) chain file
+  acting e Done chain i only = (only, refl)
+  acting e Fault chain i only = (only, refl)
+  acting e Inhibited chain i only = absurd (i refl)
 
   left-alone : (slot : ℕ) (o : Outcome) (s : State) → (o ≡ Done → s ≡ readFalls (d .state)) → (o ≡ Inhibited → ⊥) → d .selected ≡ true
+      → OnlyMet (Select slot) c (with (putOf (c .states) (l .select) s) (linesAfter (Select slot) l))
       → Leaves (Select slot) c file (eitherAnswer o answer.Unselected) (with (putOf (c .states) (l .select) s) (linesAfter (Select slot) l)) file
-  left-alone slot Fault s e i on = refl
-  left-alone slot Inhibited s e i on = absurd (i refl)
-  left-alone slot Done s e i on = (rw (on, e refl), refl)
+  left-alone slot Fault s e i on only = (only, refl)
+  left-alone slot Inhibited s e i on only = absurd (i refl)
+  left-alone slot Done s e i on only = (rw (on, e refl), refl)
 
   swapped : (e : Event) (o p : Outcome) (chain : Chain) → (o ≡ Inhibited → ⊥) → (p ≡ Inhibited → ⊥)
-      → Leaves e c file (eitherAnswer o (outcomeAnswer p)) chain file
-  swapped e Done p chain i j = acting e p chain j
-  swapped e Fault p chain i j = refl
-  swapped e Inhibited p chain i j = absurd (i refl)
+      → OnlyMet e c chain → Leaves e c file (eitherAnswer o (outcomeAnswer p)) chain file
+  swapped e Done p chain i j only = acting e p chain j only
+  swapped e Fault p chain i j only = (only, refl)
+  swapped e Inhibited p chain i j only = absurd (i refl)
 
-  timed : (e : Event) (late : Bool) (chain : Chain) → Leaves e c file (if late then answer.Fault else answer.Taken) chain file
-  timed e true chain = refl
-  timed e false chain = refl
+  timed : (e : Event) (late : Bool) (chain : Chain) → OnlyMet e c chain → Leaves e c file (if late then answer.Fault else answer.Taken) chain file
+  timed e true chain only = (only, refl)
+  timed e false chain only = (only, refl)
 
   inside : (position : Position) → d .selected ≡ true → position .0 < d .profile .shape .track .0
       → (d .state .body .writing ≡ 1) ⊎ (d .state .body .reading ≡ 1) → metPlace c position < length file
   inside position on t u = omega (arith, cell-in-file c position h on t u)
 
+  abbrev o : Cases c (λ e x. OnlyMet e c (applied c x))
+  o = only-cases c
+
   cases : Cases c P
   unfolding applied changedOf passEvent
   cases = record {
-    still = λ e b on m q. refl;
-    level = λ v on. refl;
+    still = λ e b on m q. (o .still e b on m q, refl);
+    level = λ v on. (o .level v on, refl);
     alone = λ e a off q. (rw off, refl);
-    met = λ e on m q. ruled e (ruleOf d l e .outcome) (ruleOf d l e .state) (rule-unlatched d l e) q;
-    enters = λ slot off f m. acting (Select slot) _ _ (met-acts _ _ _);
-    leaves = λ slot on f m. left-alone slot (leftOf (d .state) .outcome) (leftOf (d .state) .state) (left-done (d .state)) (left-acts (d .state)) on;
-    swaps = λ slot on f m. swapped (Select slot) _ _ _ (left-acts (d .state)) (met-acts _ _ _);
-    passes = λ us. timed (Pass us) (d .selected && lateB us (d .state .transfer)) _;
+    met = λ e on m q. ruled e (ruleOf d l e .outcome) (ruleOf d l e .state) (rule-unlatched d l e) q (o .met e on m q);
+    enters = λ slot off f m. acting (Select slot) _ _ (met-acts _ _ _) (o .enters slot off f m);
+    leaves = λ slot on f m. left-alone slot (leftOf (d .state) .outcome) (leftOf (d .state) .state) (left-done (d .state)) (left-acts (d .state)) on (o .leaves slot on f m);
+    swaps = λ slot on f m. swapped (Select slot) _ _ _ (left-acts (d .state)) (met-acts _ _ _) (o .swaps slot on f m);
+    passes = λ us. timed (Pass us) (d .selected && lateB us (d .state .transfer)) _ (o .passes us);
     past = λ position byte on. (refl, refl);
     writes = λ position byte on t w.
         (record { position = position; byte = byte; cell = refl; inside = inside position on t (inl w); holds = refl }, refl);
@@ -130,7 +127,7 @@ module _ (c : Chain) (file : List ℕ) (h : chainSoundB c ≡ true) (n : length 
         (record { position = position; byte = byte; cell = refl; inside = inside position on t (inr r); is = refl }, (refl, refl));
     idle = λ position byte on w r. (refl, refl);
     inapplicable = λ slot which. (refl, refl);
-    condition = λ slot which f. refl;
+    condition = λ slot which f. (o .condition slot which f, refl);
   }
 
   decision-leaves : (e : Event) → P e (decideOf c e)

@@ -7,7 +7,7 @@ use native.Mathlib.Omega.{arith}
 use borrow.Author.Tests.{eqb-true, eq-eqb, le-ltb, le-leb, not-false}
 use lib.Dec.{eqb}
 use lib.ListN.{length, getD, set, length-set}
-use lib.Seq.{getD-set-same, getD-set-other}
+use lib.Seq.{getD-set-same, getD-set-other, set-getD}
 use Rattle.counts.specs.Choice.{if_then_else_}
 use Rattle.counts.specs.Slots.{mapWith}
 use Rattle.counts.proofs.Choice.{by-test}
@@ -55,6 +55,15 @@ module _ (states : List State) (slot : ℕ) (s : State) where
       by : (t : Bool) → length (if t then set states (slot - 1) s else states) ≡ length states
       by true = length-set states (slot - 1) s
       by false = refl
+
+-- putting a slot's own state changes nothing
+pub put-back : (states : List State) (slot : ℕ) → putOf states slot (slotState states slot) ≡ states
+unfolding putOf slotState
+put-back states slot = by (slotB slot)
+  where
+    by : (t : Bool) → (if t then set states (slot - 1) (if t then getD states (slot - 1) blankState else blankState) else states) ≡ states
+    by true = set-getD states (slot - 1) blankState
+    by false = refl
 
 -- no pack stands past the end of the packs
 there : (packs : List Pack) (i : ℕ) → getD packs i noPack .fitted ≡ 1 → i < length packs

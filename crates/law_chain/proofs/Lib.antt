@@ -1,9 +1,12 @@
 pub mod Fitted
 pub mod Outcomes
-pub mod Column
 pub mod Drives
+pub mod Meeting
+pub mod Column
 pub mod Ranges
 pub mod Kept
 pub mod Run
 pub mod FirstAnswer
 pub mod Answered
+pub mod Stepping
+pub mod Touched

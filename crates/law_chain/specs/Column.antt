@@ -16,6 +16,7 @@ use Rattle.chain_decision.specs.Deeds.{spotPlace}
 use Rattle.chain_others.specs.Cell.{cellSpot}
 use Rattle.chain_apply.specs.Apply.{putOf}
 use Rattle.chain_decide.specs.Levels.{linesAfter}
+use Rattle.law_chain.specs.OnlyMet.{OnlyMet}
 
 -- where the byte stands that a cell of the selected drive meets
 abbrev pub metPlace : Chain → Position → ℕ
@@ -58,12 +59,12 @@ module _ (e : Event) (c : Chain) (file : List ℕ) where
   -- the rows of the answers 0 to 5
   abbrev pub column : ℕ → Chain → List ℕ → List (Type 0)
   column value chain after =
-      (after ≡ file)  -- "0 | taken | as the rules say"
+      (OnlyMet e c chain × (after ≡ file))  -- "0 | taken | as the rules say"
       ∷ (ByteRead e c file value × Same chain after)  -- "1 | byte read (value = byte) | nothing changed"
       ∷ (ByteWritten e c file after × (chain ≡ c))  -- "2 | byte written | that one file byte"
       ∷ ((chain ≡ leftBehind e c) × (after ≡ file))  -- "3 | no fitted drive selected .. | line levels taken"
       ∷ ((chain ≡ linesTaken e c) × (after ≡ file))  -- "4 | inhibited, nothing latched | line levels taken"
-      ∷ (after ≡ file)  -- "5 | a fault rule applied .. | as the rules say"
+      ∷ (OnlyMet e c chain × (after ≡ file))  -- "5 | a fault rule applied .. | as the rules say"
       ∷ []
 
   -- what an answer leaves of the chain and of the file; "Refusals 19 to 25 change nothing"

@@ -1,3 +1,4 @@
+pub mod OnlyMet
 pub mod Column
 pub mod Applies
 pub mod SoundOver

@@ -26,6 +26,7 @@ use Rattle.law_drive.proofs.Gates.{write-gate-off, read-gate-off}
 use Rattle.word_rules.specs.declared.Told.{Told}
 use Rattle.word_rules.specs.declared.Told.the-variants.{Nothing, Word}
 use Rattle.word_rules.specs.declared.Answered.{Answered}
+use Rattle.word_rules.specs.declared.Carried.{Carried}
 use Rattle.word_rules.specs.Rules.{carryOf, plainOf}
 use Rattle.event.specs.Answer.{answerNumber}
 use Rattle.chain_record.specs.declared.Chain.{Chain}
@@ -37,7 +38,7 @@ use Rattle.chain_decide.specs.Decide.{decideOf}
 use Rattle.chain_apply.specs.Apply.{putOf, passSlot, changedOf, applied}
 use Rattle.chain_sound.proofs.SoundSlots.{sound, state-there, chosen}
 use Rattle.law_exchange.specs.Host.{Sending, Exchanged, exchanges}
-use Rattle.law_exchange.specs.Waits.{levelOf, sentLevel, fetchLevel, sentWord, bitsOf, timeOf, sentTime, fetchTime, sentCount, fetchCount, InTime}
+use Rattle.law_exchange.specs.Waits.{levelOf, sentWord, bitsOf, timeOf, sentTime, fetchTime, sentCount, fetchCount, InTime}
 use Rattle.law_exchange.specs.Unit.{Wired, unit}
 use Rattle.law_exchange.specs.UnitAtOnce as alone
 use Rattle.law_exchange.proofs.Like.{exchanges-like, any-waits}
@@ -45,7 +46,7 @@ use Rattle.law_exchange.proofs.Exchange.{at-once}
 use Rattle.law_words.specs.Drive.{toldOf, carriedBy, drive}
 use Rattle.chain_step.specs.Run.{Lent}
 use Rattle.law_words.specs.Decided.{driveOf, decided}
-use Rattle.law_words.specs.AtOnce.{Resting, passed, plain, given, fallAnswer, risen, refused, carried, atOnce}
+use Rattle.law_words.specs.AtOnce.{Resting, passed, plain, given, risen, refused, waited, calledOn, levelLeft, answersGiven, responseBits, called, atOnce}
 use Rattle.law_words.proofs.DriveLaws.{drive-laws, carry-answer}
 use Rattle.law_words.proofs.Here.{Here, here, none-passes, closed-none}
 use Rattle.law_words.proofs.Around.{slots, around, Like, Fine, alike}
@@ -133,10 +134,6 @@ module _ (c : Chain) (file : List ℕ) (r : Resting c) where
     refuses : calmB b₁ ≡ false → plain n (passed us c) .state ≡ stateOf (latchBit 6 b₁) noTransfer
     refuses q = ap (λ (a : Answered). a .state) (plain-passed ∙ plain-refuses p n b₁ no-read no-write q)
 
-    -- a calm drive with no transfer is complete, so that the plain word rules carry the word out
-    fall-is : calmB b₁ ≡ true → fallAnswer n (passed us c) ≡ alone.unitFallAnswer (drive p .carry n b₁)
-    fall-is q = ap (λ (a : Answered). answerNumber (outcomeAnswer (a .outcome))) (carries q) ∙ carry-answer p b₁ n
-
     -- what the plain word rules leave, the others' time passed and the data level apart
     ended : (level : ℕ) (body : Body) → plain n (passed us c) .state ≡ stateOf body noTransfer
         → around c file (alone.rests body level us) ≡ record { chain = given n level (passed us c); file = file }
@@ -202,42 +199,62 @@ module _ (w : Sending) (d : Lent) (fit : InTime w) (r : Resting (d .chain)) wher
   }
 
   module _ (q : calmB body₀ ≡ true) where
-    -- later the drive is still as it was at the first rise
-    later : (us : ℕ) → t₀ ≤ us → plain n₀ (passed us c₀) .state ≡ stateOf (carryOf p₀ body₀ n₀ .body) noTransfer
+    abbrev carried₀ : Carried
+    carried₀ = carryOf p₀ body₀ n₀
+
+    -- later the drive is still as it was at the first rise, so a later call of the plain word rules comes to the same
+    later : (us : ℕ) → t₀ ≤ us → plain n₀ (passed us c₀) ≡ record { state = stateOf (carried₀ .body) noTransfer; told = carried₀ .told; outcome = carried₀ .outcome }
     later us h =
         let same : time.passBody (record { 0 = us }) (driveOf c₀ .body) ≡ body₀ = stays t₀ us (driveOf c₀ .body) h q in
-        ap (λ (a : Answered). a .state) (carries c₀ (d .file) r us n₀ (ap calmB same ∙ q))
-        ∙ ap (λ (b′ : Body). stateOf (carryOf p₀ b′ n₀ .body) noTransfer) same
+        carries c₀ (d .file) r us n₀ (ap calmB same ∙ q)
+        ∙ ap (λ (b′ : Body). record { state = stateOf (carryOf p₀ b′ n₀ .body) noTransfer; told = carryOf p₀ b′ n₀ .told; outcome = carryOf p₀ b′ n₀ .outcome }) same
 
-    fall : alone.unitFallAnswer (carriedBy (carryOf p₀ body₀ n₀)) ≡ fallAnswer n₀ (risen w d)
-    fall = sym (fall-is c₀ (d .file) r t₀ n₀ q)
+    sent-late : t₀ ≤ sentTime (w .first) (w .more)
+    sent-late = low-first (w .first) (w .more)
 
-    carried-alike : (t : Told) → lent (alone.done w l₀ (carriedBy (carryOf p₀ body₀ n₀)) (toldOf t)) ≡ carried w d t
-    carried-alike Nothing =
-        let us = sentTime (w .first) (w .more) in
-        let last = sentLevel l₀ (w .first ∷ w .more) in
-        λ i. record {
-          now = ended c₀ (d .file) r us n₀ last (carryOf p₀ body₀ n₀ .body) (later us (low-first (w .first) (w .more))) i;
-          answers = fall i ∷ alone.zeros (sentCount (w .first) (w .more)) [];
-          response = none;
+    fetched-late : t₀ ≤ sentTime (w .first) (w .more) + fetchTime (w .gaps)
+    fetched-late = omega (arith, sent-late)
+
+    -- the call when the waits have passed
+    call-is : (t : Told) → plain n₀ (waited w d t) ≡ record { state = stateOf (carried₀ .body) noTransfer; told = carried₀ .told; outcome = carried₀ .outcome }
+    call-is Nothing = later _ sent-late
+    call-is (Word x) = later _ fetched-late
+
+    fall : alone.unitFallAnswer (carriedBy carried₀) ≡ answerNumber (outcomeAnswer (carried₀ .outcome))
+    fall = sym (carry-answer p₀ body₀ n₀)
+
+    carried-alike : (t : Told) → lent (alone.done w l₀ (carriedBy carried₀) (toldOf t))
+        ≡ record {
+          now = record { chain = given n₀ (levelLeft w d t) (waited w d t); file = d .file };
+          answers = answersGiven w d (answerNumber (outcomeAnswer (carried₀ .outcome))) t;
+          response = responseBits w d t;
         }
-    carried-alike (Word x) =
-        let us = sentTime (w .first) (w .more) + fetchTime (w .gaps) in
-        let last = fetchLevel (sentLevel l₀ (w .first ∷ w .more)) (w .gaps) in
-        let h : t₀ ≤ us = omega (arith, low-first (w .first) (w .more)) in
-        λ i. record {
-          now = ended c₀ (d .file) r us n₀ last (carryOf p₀ body₀ n₀ .body) (later us h) i;
-          answers = alone.zeros (fetchCount (w .gaps)) (fall i ∷ alone.zeros (sentCount (w .first) (w .more)) []);
-          response = some (bitsOf wordBits x);
-        }
+    carried-alike Nothing = λ i. record {
+      now = ended c₀ (d .file) r _ n₀ (levelLeft w d Nothing) (carried₀ .body) (ap (λ (a : Answered). a .state) (call-is Nothing)) i;
+      answers = fall i ∷ alone.zeros (sentCount (w .first) (w .more)) [];
+      response = none;
+    }
+    carried-alike (Word x) = λ i. record {
+      now = ended c₀ (d .file) r _ n₀ (levelLeft w d (Word x)) (carried₀ .body) (ap (λ (a : Answered). a .state) (call-is (Word x))) i;
+      answers = alone.zeros (fetchCount (w .gaps)) (fall i ∷ alone.zeros (sentCount (w .first) (w .more)) []);
+      response = some (bitsOf wordBits x);
+    }
 
-    told : carryOf p₀ body₀ n₀ .told ≡ plain n₀ (risen w d) .told
-    told = sym (ap (λ (a : Answered). a .told) (carries c₀ (d .file) r t₀ n₀ q))
+    abbrev answered₀ : Answered
+    answered₀ = record { state = stateOf (carried₀ .body) noTransfer; told = carried₀ .told; outcome = carried₀ .outcome }
+
+    -- every wait has passed on the chain of the call
+    chain-is : waited w d (carried₀ .told) ≡ calledOn w d
+    chain-is = ap (λ (a : Answered). waited w d (a .told)) (sym (later _ sent-late))
+
+    called-is : called w d (waited w d (carried₀ .told)) answered₀ ≡ called w d (calledOn w d) (plain n₀ (calledOn w d))
+    called-is =
+        ap₂ (called w d) chain-is (sym (call-is (carried₀ .told)) ∙ ap (plain n₀) chain-is)
 
   alike-by : (t : Bool) → calmB body₀ ≡ t
       → lent (if t then alone.carries w l₀ (carriedBy (carryOf p₀ body₀ n₀)) else alone.unitRefused w l₀ (latchBit 6 body₀))
-      ≡ (if t then carried w d (plain n₀ (risen w d) .told) else refused w d)
-  alike-by true q = carried-alike q (carryOf p₀ body₀ n₀ .told) ∙ ap (carried w d) (told q)
+      ≡ (if t then called w d (calledOn w d) (plain n₀ (calledOn w d)) else refused w d)
+  alike-by true q = carried-alike q (carryOf p₀ body₀ n₀ .told) ∙ called-is q
   alike-by false q = refused-alike q
 
   complete : completeB (driveOf (risen w d)) ≡ calmB body₀
@@ -247,4 +264,4 @@ module _ (w : Sending) (d : Lent) (fit : InTime w) (r : Resting (d .chain)) wher
   pub demand-3 : exchanges decided w d ≡ atOnce w d
   demand-3 =
       by-unit ∙ alike-by (calmB body₀) refl
-      ∙ ap (λ (t : Bool). if t then carried w d (plain n₀ (risen w d) .told) else refused w d) (sym complete)
+      ∙ ap (λ (t : Bool). if t then called w d (calledOn w d) (plain n₀ (calledOn w d)) else refused w d) (sym complete)

@@ -8,3 +8,4 @@ pub mod ChainTime
 pub mod Step
 pub mod Response
 pub mod Runs
+pub mod Reached

@@ -3,7 +3,7 @@ use Prim.Native.Nat.{ℕ, _+_}
 use mathlib.Core.Path.{_≡_}
 use mathlib.Core.Bool.{true, false}
 use mathlib.Core.List.{List, [], _∷_}
-use mathlib.Core.Option.{none, some}
+use mathlib.Core.Option.{Option, none, some}
 use lib.ListN.{length}
 use Rattle.counts.specs.Choice.{if_then_else_}
 use Rattle.handshake.specs.Transfer.{wordBits, openB}
@@ -54,10 +54,6 @@ given n level c = record {
   length = c .length;
 }
 
--- the 17th fall's answer: "5 a fault rule applied", else "0 taken"
-abbrev pub fallAnswer : ℕ → Chain → ℕ
-fallAnswer n c = answerNumber (outcomeAnswer (plain n c .outcome))
-
 module _ (w : Sending) (d : Lent) where
   -- the data level before
   abbrev pub level : ℕ
@@ -81,10 +77,6 @@ module _ (w : Sending) (d : Lent) where
   abbrev pub lastLevel : ℕ
   lastLevel = sentLevel level (w .first ∷ w .more)
 
-  -- 0 at every event but perhaps the 17th fall
-  abbrev pub answers : List ℕ
-  answers = fallAnswer word risen ∷ zeros (sentCount (w .first) (w .more)) []
-
   -- not complete at the first rise: bit 6, answered 5; request falls at once, and no later wait counts
   abbrev pub refused : Exchanged Lent
   refused = record {
@@ -93,18 +85,36 @@ module _ (w : Sending) (d : Lent) where
     response = none;
   }
 
-  -- carried out, with no response or with one: seventeen bits, parity last
-  abbrev pub carried : Told → Exchanged Lent
-  carried Nothing = record {
-    now = record { chain = given word lastLevel sent; file = d .file };
-    answers = answers;
-    response = none;
-  }
-  carried (Word r) = record {
-    now = record { chain = given word (fetchLevel lastLevel (w .gaps)) fetched; file = d .file };
-    answers = zeros (fetchCount (w .gaps)) answers;
-    response = some (bitsOf wordBits r);
+  -- the chain when the waits have passed, those of the fetch too where the word has a response
+  abbrev pub waited : Told → Chain
+  waited Nothing = sent
+  waited (Word r) = fetched
+
+  -- the chain that the plain word rules are called on: every wait has passed
+  abbrev pub calledOn : Chain
+  calledOn = waited (plain word sent .told)
+
+  abbrev pub levelLeft : Told → ℕ
+  levelLeft Nothing = lastLevel
+  levelLeft (Word r) = fetchLevel lastLevel (w .gaps)
+
+  -- 0 at every event but perhaps the 17th fall
+  abbrev pub answersGiven : ℕ → Told → List ℕ
+  answersGiven fall Nothing = fall ∷ zeros (sentCount (w .first) (w .more)) []
+  answersGiven fall (Word r) = zeros (fetchCount (w .gaps)) (fall ∷ zeros (sentCount (w .first) (w .more)) [])
+
+  -- seventeen bits, parity last
+  abbrev pub responseBits : Told → Option (List ℕ)
+  responseBits Nothing = none
+  responseBits (Word r) = some (bitsOf wordBits r)
+
+  -- what one call on a chain gives: the record, the file, the answers and the response
+  abbrev pub called : Chain → Answered → Exchanged Lent
+  called c a = record {
+    now = record { chain = given word (levelLeft (a .told)) c; file = d .file };
+    answers = answersGiven (answerNumber (outcomeAnswer (a .outcome))) (a .told);
+    response = responseBits (a .told);
   }
 
   abbrev pub atOnce : Exchanged Lent
-  atOnce = if completeB (driveOf risen) then carried (plain word risen .told) else refused
+  atOnce = if completeB (driveOf risen) then called calledOn (plain word calledOn) else refused

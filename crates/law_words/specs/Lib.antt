@@ -3,3 +3,4 @@ pub mod Decided
 pub mod AtOnce
 pub mod Stepped
 pub mod Listed
+pub mod Rest

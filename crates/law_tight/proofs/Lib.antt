@@ -1,0 +1,4 @@
+pub mod Coincide
+pub mod Refuted
+pub mod Unwritten
+pub mod Early

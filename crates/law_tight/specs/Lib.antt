@@ -1,0 +1,4 @@
+pub mod Tight
+pub mod WrongChains
+pub mod Writing
+pub mod FirstBit

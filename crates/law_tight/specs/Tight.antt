@@ -1,0 +1,51 @@
+-- "that any two outcomes allowed by it coincide is proved": contracts, and the outcomes of functions that leave more than a result.
+use Prim.Native.Nat.{ℕ}
+use mathlib.Core.Path.{_≡_}
+use mathlib.Core.List.{List}
+use lib.ListN.{length}
+use Rattle.pack_profile.specs.declared.Profile.{Profile}
+use Rattle.pack_lay.specs.declared.Laid.{Laid}
+use Rattle.pack_lay.specs.Lay.{laidAnswer, laidBytes}
+use Rattle.chain_step.specs.declared.Performed.{Performed}
+use Rattle.chain_step.specs.declared.Stepped.{Stepped}
+use Rattle.chain_step.specs.Step.{performOf, stepOf, stepFile}
+use Rattle.chain_step.specs.Run.{Numbers, Lent}
+
+-- what a function ensures of an outcome, for an input
+abbrev pub Contract : Type 0 → Type 0 → Type 1
+Contract I O = I → O → Type 0
+
+-- any two outcomes allowed by it coincide
+abbrev pub Tight : {I O : Type 0} → Contract I O → Type 0
+Tight {I} {O} C = (i : I) (x y : O) → C i x → C i y → x ≡ y
+
+-- a result, and what is left of a lent part
+pub record Leaving (R : Type 0) : Type 0 where
+  pub result : R
+  pub left : List ℕ
+
+-- an event on a record and a lent file
+pub record EventOn : Type 0 where
+  pub event : Numbers
+  pub on : Lent
+
+-- `chain_step::step`
+abbrev pub StepContract : Contract EventOn (Leaving Stepped)
+StepContract i o =
+    (o .result ≡ stepOf (i .event .kind) (i .event .a) (i .event .b) (i .on .chain) (i .on .file))
+    × (o .left ≡ stepFile (i .event .kind) (i .event .a) (i .event .b) (i .on .chain) (i .on .file))
+
+-- `chain_step::perform`
+abbrev pub PerformContract : Contract EventOn (Leaving Performed)
+PerformContract i o =
+    (o .result ≡ performOf (i .event .kind) (i .event .a) (i .event .b) (i .on .chain) (i .on .file))
+    × (o .left ≡ stepFile (i .event .kind) (i .event .a) (i .event .b) (i .on .chain) (i .on .file))
+
+-- a profile laid into a lent part
+pub record LayingIn : Type 0 where
+  pub profile : Profile
+  pub part : List ℕ
+
+-- `pack_lay::lay`
+abbrev pub LayContract : Contract LayingIn (Leaving Laid)
+LayContract i o = (o .result ≡ laidAnswer (i .profile) (length (i .part))) × (o .left ≡ laidBytes (i .profile) (i .part))

@@ -1,0 +1,1 @@
+// How tight a contract is: theory over contracts of several parts, no code of its own.
