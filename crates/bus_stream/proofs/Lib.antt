@@ -3,3 +3,4 @@ pub mod Running
 pub mod Turning
 pub mod Cut
 pub mod Whole
+pub mod Ran

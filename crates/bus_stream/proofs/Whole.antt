@@ -17,11 +17,11 @@ use Rattle.bus_stream.specs.Stream.{Stream, streamOf, sessionOf, lineCou
 use Rattle.bus_stream.specs.EventLines.{onFirst, splitLines, linesAnswers}
 
 -- the lines of a text whose first line has begun
-abbrev begun : List ℕ → List (List ℕ) → List (List ℕ)
+abbrev pub begun : List ℕ → List (List ℕ) → List (List ℕ)
 begun w [] = if hasAny w then w ∷ [] else []
 begun w (l ∷ ls) = (w ++ l) ∷ ls
 
-begun-none : (ls : List (List ℕ)) → begun [] ls ≡ ls
+pub begun-none : (ls : List (List ℕ)) → begun [] ls ≡ ls
 begun-none [] = refl
 begun-none (l ∷ ls) = refl
 
@@ -29,23 +29,23 @@ has-more : (w : List ℕ) (b : ℕ) → hasAny (w ++ (b ∷ [])) ≡ true
 has-more [] b = refl
 has-more (x ∷ w) b = refl
 
-begun-more : (w : List ℕ) (b : ℕ) (ls : List (List ℕ)) → begun (w ++ (b ∷ [])) ls ≡ begun w (onFirst b ls)
+pub begun-more : (w : List ℕ) (b : ℕ) (ls : List (List ℕ)) → begun (w ++ (b ∷ [])) ls ≡ begun w (onFirst b ls)
 begun-more w b [] = simp (has-more w b)
 begun-more w b (l ∷ ls) = ap (λ (v : List ℕ). v ∷ ls) (append-assoc w (b ∷ []) l)
 
-fed-more : (w : List ℕ) (s : Scan) (b : ℕ) → fedAll s (w ++ (b ∷ [])) ≡ fedOf (fedAll s w) b
+pub fed-more : (w : List ℕ) (s : Scan) (b : ℕ) → fedAll s (w ++ (b ∷ [])) ≡ fedOf (fedAll s w) b
 fed-more [] s b = refl
 fed-more (x ∷ w) s b = fed-more w (fedOf s x) b
 
 -- a stream whose line has the bytes w
-abbrev reading : List ℕ → ℕ → Chain → List ℕ → List ℕ → Stream
+abbrev pub reading : List ℕ → ℕ → Chain → List ℕ → List ℕ → Stream
 reading w n c file out = streamOf (sessionOf c (fedAll freshScan w) n) file out
 
 abbrev Lined : List ℕ → Type 0
 Lined text = (w : List ℕ) (n : ℕ) (c : Chain) (file out : List ℕ)
     → closedOf (fedBytes (reading w n c file out) text) .out ≡ out ++ linesAnswers n c file (begun w (splitLines text))
 
-answered-is : (w : List ℕ) (n : ℕ) (c : Chain) (file out : List ℕ) → answeredOf (reading w n c file out) ≡ repliedOf c n file out (lineOf w)
+pub answered-is : (w : List ℕ) (n : ℕ) (c : Chain) (file out : List ℕ) → answeredOf (reading w n c file out) ≡ repliedOf c n file out (lineOf w)
 unfolding answeredOf
 answered-is w n c file out = ap (λ (l : Line). repliedOf c n file out l) (line-read w)
 

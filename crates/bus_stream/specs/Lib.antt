@@ -1,4 +1,5 @@
 pub mod Stream
 pub mod EventLines
+pub mod LineEvents
 pub mod Parts
 pub mod Kept
