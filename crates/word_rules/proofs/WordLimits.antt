@@ -41,7 +41,7 @@ module _ (p : Profile) (v : validB p ≡ true) where
       (λ _. whole p (refusedPlain s .state .body) (latch-keeps p (s .body) 64 (omega arith) refl (parts p (s .body) h)))
       (λ _. limits-kept (s .body) n h)
 
--- "A word never touches the transfer": what is open stays open
+-- A word never touches the transfer: what is open stays open.
 pub plain-transfer : (p : Profile) (s : State) (n : ℕ) → plainOf p s n .state .transfer ≡ s .transfer
 unfolding plainOf
 plain-transfer p s n = by-test (λ (a : Answered). a .state .transfer ≡ s .transfer) (refusesB s) _ _ (λ _. refl) (λ _. refl)
