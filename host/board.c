@@ -64,7 +64,7 @@ int main(int count, char **words) {
     int more;
     while ((more = next(event)) > 0) {
         uint32_t code = esdi_event(&chain, file, length, event[0], event[1], event[2]);
-        printf("%u %u %u %u\n", ++line, ESDI_ANSWER(code), ESDI_VALUE(code), esdi_lines(&chain));
+        printf("%u %u %u %u\n", ++line, ESDI_ANSWER(code), ESDI_VALUE(code), ESDI_VALUE(esdi_lines(&chain)));
     }
     if (more < 0)
         fprintf(stderr, "line %u isn't three numbers\n", line + 1);

@@ -312,9 +312,9 @@ impl Pair {
         if ours != theirs {
             return Err(format!("answer and value {:?}, the twin's {:?}", ours, theirs));
         }
-        let (lines, sum) = (esdi::lines(&self.record), twin::line_sum(&self.chain));
+        let (lines, sum) = (esdi::lines(&self.record), (0, twin::line_sum(&self.chain)));
         if lines != sum {
-            return Err(format!("lines {}, the twin's {}", lines, sum));
+            return Err(format!("lines {:?}, the twin's {:?}", lines, sum));
         }
         let record = esdi::record_of(&self.chain);
         if self.record != record {
@@ -402,7 +402,8 @@ fn changed_record(dice: &mut Dice, pair: &Pair) -> Option<u8> {
             (answer, after, twins)
         }
     };
-    if ours == theirs && record == after && file == twins {
+    let shown = esdi::chain_of(&before).filter(|c| !twin::malformed(c)).map_or((22, 0), |c| (0, twin::line_sum(&c)));
+    if ours == theirs && record == after && file == twins && esdi::lines(&before) == shown {
         return Some(ours.0);
     }
     println!("DIFFERENCE on the record {:?}\nevent {:?}: {:?}, the twin's {:?}\nrecord after {:?}", before, event, ours, theirs, record);
@@ -479,11 +480,16 @@ fn damaged_file(dice: &mut Dice) -> bool {
     let after = twin::Chain::fresh(&file).map_or(before, |c| esdi::record_of(&c));
     let mut same = esdi::fit(&mut record, &file) == (answer, place) && record == after && esdi::packs(&file) == (answer, packs.len(), place);
     for slot in 0..9 {
-        let mut pack = esdi::Pack::default();
-        if let Some(p) = packs.iter().find(|p| p.profile.slot as u32 == slot) {
-            pack = esdi::Pack { fitted: 1, place: p.place as u32, profile: esdi::profile_of(&p.profile) };
-        }
-        same &= esdi::pack_at(&file, slot) == pack;
+        let expected = if slot < 1 || slot > 7 {
+            (21, 0, esdi::full_pack())
+        } else if answer != 0 {
+            (answer, place, esdi::full_pack())
+        } else if let Some(p) = packs.iter().find(|p| p.profile.slot as u32 == slot) {
+            (0, 0, esdi::Pack { fitted: 1, place: p.place as u32, profile: esdi::profile_of(&p.profile) })
+        } else {
+            (24, 0, esdi::full_pack())
+        };
+        same &= esdi::pack_at(&file, slot) == expected;
     }
     if !same {
         println!("DIFFERENCE on a pack file of {} bytes of {:?}: {:?}, the twin's {:?}", file.len(), profiles, esdi::packs(&file), (answer, place));

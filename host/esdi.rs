@@ -7,7 +7,7 @@ use crate::twin;
 #[derive(Clone, Copy, Debug, Default, PartialEq, Eq)]
 pub struct Shape {
     pub cylinders: u16,
-    pub heads: u8,
+    pub heads: u16,
     pub track: u16,
     pub sector: u16,
 }
@@ -32,7 +32,7 @@ pub struct Profile {
     pub general: u16,
     pub gap: u8,
     pub sync: u8,
-    pub protected: u8,
+    pub protected: u16,
     pub shape: Shape,
     pub times: Times,
 }
@@ -40,7 +40,7 @@ pub struct Profile {
 #[repr(C)]
 #[derive(Clone, Copy, Debug, Default, PartialEq, Eq)]
 pub struct Pack {
-    pub fitted: u8,
+    pub fitted: u32,
     pub place: u32,
     pub profile: Profile,
 }
@@ -79,8 +79,8 @@ pub struct Transfer {
     pub waiting: u32,
     pub bits: u32,
     pub response: u32,
+    pub count: u16,
     pub way: u8,
-    pub count: u8,
     pub acknowledge: u8,
 }
 
@@ -96,14 +96,14 @@ pub struct State {
 pub struct Lines {
     pub select: u8,
     pub heads: u8,
-    pub writegate: u8,
-    pub readgate: u8,
+    pub writegate: u16,
+    pub readgate: u16,
     pub command: u8,
     pub request: u8,
 }
 
 #[repr(C)]
-#[derive(Clone, Copy, Debug, Default, PartialEq, Eq)]
+#[derive(Clone, Copy, Debug, Default)]
 pub struct Chain {
     pub packs: [Pack; 7],
     pub states: [State; 7],
@@ -111,13 +111,22 @@ pub struct Chain {
     pub length: u32,
 }
 
+/// Every byte counts, whatever the fields are.
+impl PartialEq for Chain {
+    fn eq(&self, other: &Chain) -> bool {
+        const SIZE: usize = std::mem::size_of::<Chain>();
+        let bytes = |c: &Chain| unsafe { *(c as *const Chain as *const [u8; SIZE]) };
+        bytes(self) == bytes(other)
+    }
+}
+
 extern "C" {
     fn esdi_fit(chain: *mut Chain, file: *const u8, length: usize) -> u64;
     fn esdi_event(chain: *mut Chain, file: *mut u8, length: usize, kind: u32, a: u32, b: u32) -> u32;
-    fn esdi_lines(chain: *const Chain) -> u8;
+    fn esdi_lines(chain: *const Chain) -> u32;
     fn esdi_word(chain: *mut Chain, slot: u32, word: u32) -> u64;
     fn esdi_packs(file: *const u8, length: usize) -> u64;
-    fn esdi_pack_at(pack: *mut Pack, file: *const u8, length: usize, slot: u32);
+    fn esdi_pack_at(pack: *mut Pack, file: *const u8, length: usize, slot: u32) -> u64;
     fn esdi_lay(part: *mut u8, length: usize, profile: *const Profile) -> u32;
 }
 
@@ -138,8 +147,10 @@ pub fn event(chain: &mut Chain, file: &mut [u8], kind: u32, a: u32, b: u32) -> (
     (code as u8, (code >> 8) as u8)
 }
 
-pub fn lines(chain: &Chain) -> u8 {
-    unsafe { esdi_lines(chain) }
+/// The answer's number and the sum of the lines.
+pub fn lines(chain: &Chain) -> (u8, u8) {
+    let code = unsafe { esdi_lines(chain) };
+    (code as u8, (code >> 8) as u8)
 }
 
 /// The answer's number, and the response if there is one.
@@ -154,11 +165,16 @@ pub fn packs(file: &[u8]) -> (u8, usize, usize) {
     (code as u8, (code >> 8 & 255) as usize, (code >> 32) as usize)
 }
 
-/// The pack into one that was full of ones: every field is to be written, zeros too.
-pub fn pack_at(file: &[u8], slot: u32) -> Pack {
-    let mut pack: Pack = unsafe { std::mem::transmute([0xFFu8; std::mem::size_of::<Pack>()]) };
-    unsafe { esdi_pack_at(&mut pack, file.as_ptr(), file.len(), slot) };
-    pack
+/// A pack whose every bit is one.
+pub fn full_pack() -> Pack {
+    unsafe { std::mem::transmute([0xFFu8; std::mem::size_of::<Pack>()]) }
+}
+
+/// The answer's number, the place, and the pack put into a full one.
+pub fn pack_at(file: &[u8], slot: u32) -> (u8, usize, Pack) {
+    let mut pack = full_pack();
+    let code = unsafe { esdi_pack_at(&mut pack, file.as_ptr(), file.len(), slot) };
+    (code as u8, (code >> 32) as usize, pack)
 }
 
 pub fn lay(profile: &Profile, part: &mut [u8]) -> u8 {
@@ -172,8 +188,8 @@ pub fn profile_of(p: &twin::Profile) -> Profile {
         general: p.general,
         gap: p.gap,
         sync: p.sync,
-        protected: p.protected,
-        shape: Shape { cylinders: p.cylinders, heads: p.heads, track: p.track, sector: p.sector },
+        protected: p.protected as u16,
+        shape: Shape { cylinders: p.cylinders, heads: p.heads as u16, track: p.track, sector: p.sector },
         times: Times {
             settle: p.settle,
             step: p.step as u32,
@@ -219,13 +235,13 @@ fn state_of(d: &twin::Drive) -> State {
                 twin::Transfer::Taking => 1,
                 twin::Transfer::Responding => 2,
             },
-            count: d.count,
+            count: d.count as u16,
             acknowledge: d.acknowledge as u8,
         },
     }
 }
 
-/// The record that stands for the twin's chain. Its padding is zero.
+/// The record that stands for the twin's chain.
 pub fn record_of(c: &twin::Chain) -> Chain {
     let mut r: Chain = unsafe { std::mem::zeroed() };
     for (i, slot) in c.drives.iter().enumerate() {
@@ -239,8 +255,8 @@ pub fn record_of(c: &twin::Chain) -> Chain {
     r.lines = Lines {
         select: c.select,
         heads: c.head_lines,
-        writegate: c.write_gate as u8,
-        readgate: c.read_gate as u8,
+        writegate: c.write_gate as u16,
+        readgate: c.read_gate as u16,
         command: c.command_data as u8,
         request: c.request as u8,
     };
@@ -248,8 +264,8 @@ pub fn record_of(c: &twin::Chain) -> Chain {
     r
 }
 
-fn flag(n: u8) -> Option<bool> {
-    match n {
+fn flag(n: impl Into<u32>) -> Option<bool> {
+    match n.into() {
         0 => Some(false),
         1 => Some(true),
         _ => None,
@@ -264,13 +280,13 @@ fn drive_of(p: &Pack, s: &State) -> Option<twin::Drive> {
             slot: f.slot,
             general: f.general,
             cylinders: f.shape.cylinders,
-            heads: f.shape.heads,
+            heads: u8::try_from(f.shape.heads).ok()?,
             vendor: f.vendor,
             track: f.shape.track,
             sector: f.shape.sector,
             gap: f.gap,
             sync: f.sync,
-            protected: f.protected,
+            protected: u8::try_from(f.protected).ok()?,
             settle: t.settle,
             step: u16::try_from(t.step).ok()?,
             switch: u16::try_from(t.switch).ok()?,
@@ -307,7 +323,7 @@ fn drive_of(p: &Pack, s: &State) -> Option<twin::Drive> {
             2 => twin::Transfer::Responding,
             _ => return None,
         },
-        count: w.count,
+        count: u8::try_from(w.count).ok()?,
         bits: w.bits,
         response: w.response,
         waiting: w.waiting,

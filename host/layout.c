@@ -6,11 +6,13 @@
 #include "esdi.h"
 
 static int wrong;
+static size_t covered;
 
 /* A field at an offset in the record's bytes holds a mark, and the header gives it the mark's size. */
 #define SEES(at, size, mark)                                                                        \
     do {                                                                                            \
         uint64_t want = (mark), got = 0;                                                            \
+        covered += (size);                                                                          \
         memcpy(&got, (const unsigned char *)&room + (at), (size));                                  \
         if (got != want && ++wrong)                                                                 \
             printf("layout: at %zu, %s: %llu is not %llu\n", (size_t)(at), #at, (unsigned long long)got, \
@@ -26,16 +28,16 @@ static struct {
 static void pack(int i) {
     size_t at = offsetof(struct esdi_chain, packs) + (size_t)i * sizeof(struct esdi_pack);
 #define PACK(path, mark) SEES(at + offsetof(struct esdi_pack, path), sizeof room.chain.packs[0].path, mark)
-    PACK(fitted, 23);
+    PACK(fitted, 16777229);
     PACK(place, 33554433 + i);
     PACK(profile.slot, 18);
     PACK(profile.vendor, 19);
     PACK(profile.general, 4100);
     PACK(profile.gap, 20);
     PACK(profile.sync, 21);
-    PACK(profile.write_protected, 22);
+    PACK(profile.write_protected, 4105);
     PACK(profile.shape.cylinders, 4097);
-    PACK(profile.shape.heads, 17);
+    PACK(profile.shape.heads, 4104);
     PACK(profile.shape.track, 4098);
     PACK(profile.shape.sector, 4099);
     PACK(profile.times.settle, 16777217);
@@ -64,8 +66,8 @@ static void state(int i) {
     STATE(transfer.waiting, 16777225);
     STATE(transfer.bits, 16777226);
     STATE(transfer.response, 16777227);
+    STATE(transfer.count, 4108);
     STATE(transfer.way, 30);
-    STATE(transfer.count, 31);
     STATE(transfer.acknowledge, 32);
 }
 
@@ -132,10 +134,11 @@ static void events(void) {
     IS(body->latched, ESDI_STATUS_WRITE_FAULT | ESDI_STATUS_SEEK_FAULT | ESDI_STATUS_MEDIUM_CHANGED);
     sent(0x5000);
     IS(esdi_event(&chain, file, sizeof file, ESDI_SELECT, 1, 0), ESDI_TAKEN);
-    IS(esdi_lines(&chain), ESDI_LINE_SELECTED | ESDI_LINE_READY | ESDI_LINE_COMPLETE);
+    IS(ESDI_ANSWER(esdi_lines(&chain)), ESDI_TAKEN);
+    IS(ESDI_VALUE(esdi_lines(&chain)), ESDI_LINE_SELECTED | ESDI_LINE_READY | ESDI_LINE_COMPLETE);
     IS(transfer->way, ESDI_WAY_NONE);
     IS(esdi_event(&chain, file, sizeof file, ESDI_REQUEST, 1, 0), ESDI_TAKEN);
-    IS(esdi_lines(&chain), ESDI_LINE_SELECTED | ESDI_LINE_READY | ESDI_LINE_ACKNOWLEDGE);
+    IS(ESDI_VALUE(esdi_lines(&chain)), ESDI_LINE_SELECTED | ESDI_LINE_READY | ESDI_LINE_ACKNOWLEDGE);
     IS(transfer->way, ESDI_WAY_TAKING);
     IS(esdi_event(&chain, file, sizeof file, ESDI_SELECT, 0, 0), ESDI_FAULT);
     IS(body->latched, ESDI_STATUS_INTERFACE_FAULT);
@@ -153,14 +156,14 @@ int main(void) {
     }
     FIELD(lines.select, 33);
     FIELD(lines.heads, 34);
-    FIELD(lines.write_gate, 35);
-    FIELD(lines.read_gate, 36);
+    FIELD(lines.write_gate, 4106);
+    FIELD(lines.read_gate, 4107);
     FIELD(lines.command_data, 37);
     FIELD(lines.request, 38);
     FIELD(length, 16777228);
-    /* the last field is the last of the record, and the library writes nothing past it */
-    if (offsetof(struct esdi_chain, length) + sizeof room.chain.length != sizeof room.chain && ++wrong)
-        printf("layout: the record ends past its last field\n");
+    /* no byte is padding, and the library writes nothing past the record */
+    if (covered != sizeof room.chain && ++wrong)
+        printf("layout: the fields have %zu bytes, the record %zu\n", covered, sizeof room.chain);
     for (size_t i = 0; i < sizeof room.past; i++)
         if (room.past[i] != 0xA5 && ++wrong)
             printf("layout: byte %zu past the record was written\n", i);

@@ -24,7 +24,7 @@ static void word(void) { answer = esdi_word(&chain, a, b); }
 static void lines(void) { answer = esdi_lines(&chain); }
 static void fit(void) { answer = esdi_fit(&chain, file, sizeof file); }
 static void packs(void) { answer = esdi_packs(file, sizeof file); }
-static void pack_at(void) { esdi_pack_at(&pack, file, sizeof file, a); }
+static void pack_at(void) { answer = esdi_pack_at(&pack, file, sizeof file, a); }
 static void lay(void) { answer = esdi_lay(file + (a - 1) * PACK, PACK, &pack.profile); }
 
 static void enter(void) {

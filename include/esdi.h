@@ -5,7 +5,7 @@
  * at as many bytes as its length says (any pointer will do where the length is 0). What one call is lent may not
  * overlap.
  *
- * A record is plain data, without pointers. It may be copied, kept and compared field by field. All zeros is the
+ * A record is plain data, without pointers or padding. It may be copied, kept and compared byte by byte. All zeros is the
  * empty chain: no drive, all lines low, a file of length 0. Fields may be read at any time; a record that was written
  * to by hand is checked by every call that acts on it and refused with 22 where the rules could not have left it.
  *
@@ -137,7 +137,7 @@ enum esdi_way {
 /* What a pack's trailer says of its shape. */
 struct esdi_shape {
     uint16_t cylinders; /* 1..4,096 */
-    uint8_t heads;      /* 1..16 */
+    uint16_t heads;     /* 1..16 */
     uint16_t track;     /* bytes, 4,095..40,960 */
     uint16_t sector;    /* bytes, 162..4,095, or 0 exactly if soft sectored */
 };
@@ -145,7 +145,7 @@ struct esdi_shape {
 /* Microseconds. */
 struct esdi_times {
     uint32_t settle;                         /* up to 60,000 */
-    uint32_t step;                           /* up to 1,000 */
+    uint32_t step;                           /* a cylinder, up to 1,000 */
     uint32_t head_switch;                    /* up to 60,000 */
     uint32_t recalibrate, start, diagnostic; /* up to 30,000,000 each */
     uint32_t offset;                         /* up to 60,000 */
@@ -156,15 +156,15 @@ struct esdi_profile {
     uint8_t vendor;
     uint16_t general; /* a sum of esdi_general's */
     uint8_t gap, sync;
-    uint8_t write_protected; /* 0 or 1 */
+    uint16_t write_protected; /* 0 or 1 */
     struct esdi_shape shape;
     struct esdi_times times;
 };
 
 /* A slot's pack. */
 struct esdi_pack {
-    uint8_t fitted; /* 0 or 1 */
-    uint32_t place; /* where its medium starts in the file */
+    uint32_t fitted; /* 0 or 1 */
+    uint32_t place;  /* where its medium starts in the file */
     struct esdi_profile profile;
 };
 
@@ -185,8 +185,8 @@ struct esdi_transfer {
     uint32_t waiting;  /* microseconds since the last request edge */
     uint32_t bits;     /* the bits taken, the last one lowest */
     uint32_t response; /* seventeen bits, parity lowest */
+    uint16_t count;    /* bits taken, or put out */
     uint8_t way;       /* an esdi_way */
-    uint8_t count;     /* bits taken, or put out */
     uint8_t acknowledge;
 };
 
@@ -197,10 +197,13 @@ struct esdi_state {
 
 /* The levels of the lines that the host drives. */
 struct esdi_levels {
-    uint8_t select, heads, write_gate, read_gate, command_data, request;
+    uint8_t select, heads;
+    uint16_t write_gate, read_gate;
+    uint8_t command_data, request;
 };
 
-/* The chain record. Slot n is element n - 1. */
+/* The chain record. Slot n is element n - 1. No byte of it is padding: some flags are wider than they need to be, so
+ * that the fields fill it. Two records are the same exactly where their bytes are. */
 struct esdi_chain {
     struct esdi_pack packs[ESDI_SLOTS];
     struct esdi_state states[ESDI_SLOTS];
@@ -232,9 +235,9 @@ uint64_t esdi_fit(struct esdi_chain *chain, const uint8_t *file, size_t length);
  * 0, 3, 4 and 5 leave the file; 20 to 25 leave both. They are tried in the order of their numbers. */
 uint32_t esdi_event(struct esdi_chain *chain, uint8_t *file, size_t length, uint32_t kind, uint32_t a, uint32_t b);
 
-/* What the selected drive shows, as a sum of the lines above; 0 where no fitted drive is selected. Of a malformed
- * record it is the sum that the selected slot's fields make. */
-uint8_t esdi_lines(const struct esdi_chain *chain);
+/* What the selected drive shows: ESDI_ANSWER 0 and ESDI_VALUE a sum of the lines above, 0 where no fitted drive is
+ * selected; or 22 record malformed. */
+uint32_t esdi_lines(const struct esdi_chain *chain);
 
 /* The plain word rules: a word of seventeen bits, word * 2 + parity, at once to the drive in a slot, 1 to 7.
  * ESDI_ANSWER is 0 taken, 5 a fault latched (bit 6 on a drive that reads, writes or isn't complete; bits 7, 5 and 4
@@ -246,9 +249,10 @@ uint64_t esdi_word(struct esdi_chain *chain, uint32_t slot, uint32_t word);
 /* The status of a pack file: ESDI_ANSWER 0 and ESDI_VALUE the number of packs; or 30 to 36 with ESDI_PLACE. */
 uint64_t esdi_packs(const uint8_t *file, size_t length);
 
-/* Fills *pack with the pack in a slot of a pack file: its place and its fields. All zeros where the slot is empty or
- * isn't 1 to 7, and where the file is refused. */
-void esdi_pack_at(struct esdi_pack *pack, const uint8_t *file, size_t length, uint32_t slot);
+/* Fills *pack with the pack in a slot, 1 to 7, of a pack file: its place and its fields. 0 where one is there. Else
+ * ESDI_ANSWER is 21 slot out of range, 30 to 36 with ESDI_PLACE of the file, 24 empty slot, tried in that order, and
+ * *pack is as it was. */
+uint64_t esdi_pack_at(struct esdi_pack *pack, const uint8_t *file, size_t length, uint32_t slot);
 
 /* Lays a pack at the start of a part of a file: a zeroed medium and its trailer. 0, or 33 a field of the profile, 36
  * longer than 2,147,483,647 bytes, 37 too little room, tried in that order; then not a byte is written. Bytes past

@@ -15,8 +15,8 @@ markedProfile = record {
   general = 4100;
   gap = 20;
   sync = 21;
-  protected = 22;
-  shape = record { cylinders = record { 0 = 4097 }; heads = record { 0 = 17 }; track = record { 0 = 4098 }; sector = record { 0 = 4099 } };
+  protected = 4105;
+  shape = record { cylinders = record { 0 = 4097 }; heads = record { 0 = 4104 }; track = record { 0 = 4098 }; sector = record { 0 = 4099 } };
   times = record {
     settle = record { 0 = 16_777_217 };
     step = record { 0 = 16_777_218 };
@@ -29,7 +29,7 @@ markedProfile = record {
 }
 
 abbrev pub markedPack : ℕ → Pack
-markedPack place = record { fitted = 23; place = record { 0 = place }; profile = markedProfile }
+markedPack place = record { fitted = 16_777_229; place = record { 0 = place }; profile = markedProfile }
 
 abbrev pub markedBody : ℕ → Body
 markedBody busy = record {
@@ -46,11 +46,11 @@ markedBody busy = record {
 abbrev pub markedState : ℕ → State
 markedState busy = record {
   body = markedBody busy;
-  transfer = record { waiting = record { 0 = 16_777_225 }; bits = 16_777_226; response = 16_777_227; way = 30; count = 31; acknowledge = 32 };
+  transfer = record { waiting = record { 0 = 16_777_225 }; bits = 16_777_226; response = 16_777_227; count = 4108; way = 30; acknowledge = 32 };
 }
 
 abbrev pub markedLines : Lines
-markedLines = record { select = 33; heads = record { 0 = 34 }; writegate = 35; readgate = 36; command = 37; request = 38 }
+markedLines = record { select = 33; heads = record { 0 = 34 }; writegate = 4106; readgate = 4107; command = 37; request = 38 }
 
 abbrev pub markedPacks : List Pack
 markedPacks = markedPack 33_554_433 ∷ markedPack 33_554_434 ∷ markedPack 33_554_435 ∷ markedPack 33_554_436 ∷ markedPack 33_554_437 ∷ markedPack 33_554_438 ∷ markedPack 33_554_439 ∷ []

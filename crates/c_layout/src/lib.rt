@@ -2,9 +2,13 @@
 use chain_record::Chain;
 use counts::Cylinder;
 use counts::Head;
+use counts::Heads;
 use counts::Micros;
+use counts::PerCylinder;
 use counts::Place;
 use counts::Position;
+use counts::SLOTS;
+use counts::SectorSize;
 use drive_record::Arm;
 use drive_record::Body;
 use drive_record::Latched;
@@ -24,13 +28,13 @@ fn profile() -> Profile
 {
     let shape = Shape {
         cylinders: Cylinder(4097),
-        heads: Head(17),
+        heads: Heads(4104),
         track: Position(4098),
-        sector: Position(4099),
+        sector: SectorSize(4099),
     };
     let times = Times {
         settle: Micros(16_777_217),
-        step: Micros(16_777_218),
+        step: PerCylinder(16_777_218),
         switch: Micros(16_777_219),
         recalibrate: Micros(16_777_220),
         start: Micros(16_777_221),
@@ -43,7 +47,7 @@ fn profile() -> Profile
         general: 4100,
         gap: 20,
         sync: 21,
-        protected: 22,
+        protected: 4105,
         shape,
         times,
     }
@@ -53,7 +57,7 @@ fn pack_of(place: u32) -> Pack
     ensures { λ r. ⌜ r ≡ markedPack place ⌝ }
 {
     Pack {
-        fitted: 23,
+        fitted: 16_777_229,
         place: Place(place),
         profile: profile(),
     }
@@ -75,7 +79,7 @@ fn body(busy: u32) -> Body
         timers,
         arm,
         latched: Latched(4102),
-        sector: Position(4103),
+        sector: SectorSize(4103),
         head: Head(26),
         motor: 27,
         reading: 28,
@@ -90,8 +94,8 @@ fn state_of(busy: u32) -> State
         waiting: Micros(16_777_225),
         bits: 16_777_226,
         response: 16_777_227,
+        count: 4108,
         way: 30,
-        count: 31,
         acknowledge: 32,
     };
     State {
@@ -106,14 +110,14 @@ fn lines() -> Lines
     Lines {
         select: 33,
         heads: Head(34),
-        writegate: 35,
-        readgate: 36,
+        writegate: 4106,
+        readgate: 4107,
         command: 37,
         request: 38,
     }
 }
 
-fn all_packs() -> [Pack; 7]
+fn all_packs() -> [Pack; SLOTS]
     ensures { λ r. ⌜ r ≡ markedPacks ⌝ }
 {
     [
@@ -127,7 +131,7 @@ fn all_packs() -> [Pack; 7]
     ]
 }
 
-fn all_states() -> [State; 7]
+fn all_states() -> [State; SLOTS]
     ensures { λ r. ⌜ r ≡ markedStates ⌝ }
 {
     [

@@ -3,13 +3,20 @@ use Prim.Native.Nat.{ℕ, _+_, _≤_}
 use mathlib.Core.Path.{_≡_}
 use mathlib.Core.List.{List}
 use lib.ListN.{getD}
-use lib.Dec.{ltb}
+use mathlib.Core.Bool.{not}
 use Rattle.counts.specs.Choice.{if_then_else_}
+use Rattle.counts.specs.Slots.{slotB}
+use Rattle.event.specs.declared.Answer.{Answer}
+use Rattle.event.specs.declared.Answer.the-variants.{OutOfRange, Inapplicable}
+use Rattle.event.specs.Answer.{answerNumber}
+use Rattle.pack_read.specs.declared.read.Reading.{Reading}
+use Rattle.pack_read.specs.declared.read.Reading.the-variants.{Whole, Refused}
 use Rattle.pack_read.specs.declared.Pack.{Pack}
 use Rattle.pack_read.specs.Packs.{noPack}
 use Rattle.pack_read.specs.Read.{readAll}
 use Rattle.chain_record.specs.Record.{slotPack}
 use Rattle.pack_read.specs.Packs.{fittedB}
+use Rattle.c_pack.specs.declared.CodedPack.{CodedPack}
 use Rattle.c_pack.specs.Fit.{readCode}
 
 -- 1 for a pack that is there
@@ -31,6 +38,21 @@ countOf packs = inSlot packs 0 + inSlot packs 1 + inSlot packs 2 + (inSlot packs
 unfoldable pub packsOf : List ℕ → ℕ
 packsOf file = readCode (readAll file .answer) (countOf (readAll file .slots))
 
--- the pack of a slot; all zeros where there is none, or the file is refused
-unfoldable pub packAtSlot : List ℕ → ℕ → Pack
-packAtSlot file slot = if ltb 7 slot then noPack else slotPack (readAll file .slots) slot
+-- a refusal leaves the pack as it was: 21, then 30 to 36, then 24
+abbrev pub refusedPack : Pack → Answer → CodedPack
+refusedPack old a = record { pack = old; code = answerNumber a }
+
+-- the pack that stands there, or 24 where none does
+abbrev pub slotOr : Pack → Pack → CodedPack
+slotOr p old = if fittedB p then record { pack = p; code = 0 } else refusedPack old Inapplicable
+
+-- unless the file is refused
+abbrev pub takenOr : Reading → CodedPack → CodedPack → CodedPack
+takenOr Whole found refused = found
+takenOr (Refused why place) found refused = refused
+
+-- the pack of a slot, in place of the old one
+unfoldable pub packAtSlot : Pack → List ℕ → ℕ → CodedPack
+packAtSlot old file slot =
+    if not (slotB slot) then refusedPack old OutOfRange
+    else takenOr (readAll file .answer) (slotOr (slotPack (readAll file .slots) slot) old) (record { pack = old; code = readCode (readAll file .answer) 0 })

@@ -3,10 +3,17 @@ pub mod fit;
 pub mod packs;
 
 use chain_record::Chain;
+use pack_read::Pack;
 
 // The record, and a code: an answer's number in the low byte, what the call says of it in the next, a place or a word in the high half.
 pub struct Coded {
     pub chain: Chain,
+    pub code: u64,
+}
+
+// A pack in place of a record, and the code.
+pub struct CodedPack {
+    pub pack: Pack,
     pub code: u64,
 }
 

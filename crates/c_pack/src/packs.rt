@@ -1,12 +1,20 @@
 // The status of a pack file, and a pack laid, in numbers.
+use crate::CodedPack;
 use crate::fit;
+use counts::LAST_SLOT;
+use counts::SLOTS;
+use event::Answer;
 use pack_profile::Profile;
 use pack_read::Pack;
 use pack_read::read;
+use pack_read::read::Reading;
 ghost use mathlib.Core.Path.{_≡_};
 ghost use Rattle.pack_lay.specs.Lay.{laidNumber, laidAnswer, laidBytes};
-ghost use Rattle.c_pack.specs.FilePacks.{OneIs, countOf, packsOf, packAtSlot};
+ghost use Rattle.c_pack.specs.FilePacks.{OneIs, countOf, packsOf, refusedPack, slotOr, takenOr, packAtSlot};
 ghost use lib.ListN.{length};
+
+// The last slot, as wide as a slot that C gives.
+const SLOT: u32 = LAST_SLOT as u32;
 
 fn one(p: Pack) -> u8
     ensures { λ r. ⌜ OneIs p r ⌝ }
@@ -17,7 +25,7 @@ fn one(p: Pack) -> u8
     0
 }
 
-fn count(packs: [Pack; 7]) -> u8
+fn count(packs: [Pack; SLOTS]) -> u8
     ensures { λ r. ⌜ r ≡ countOf packs ⌝ }
 {
     let a = one(packs[0]) + one(packs[1]) + one(packs[2]);
@@ -35,16 +43,55 @@ pub fn packs(file: &[u8]) -> u64
     fit::read_code(answer, count(slots))
 }
 
-// The pack in a slot of a file; all zeros where there is none.
-pub fn pack_at(file: &[u8], slot: u32) -> Pack
-    ensures { λ r. ⌜ r ≡ packAtSlot (now (file .entry)) slot ⌝ }
+// The old pack, and why it stays.
+fn refused(old: Pack, answer: Answer) -> CodedPack
+    ensures { λ r. ⌜ r ≡ refusedPack old answer ⌝ }
 {
-    if slot > 7 {
-        return Pack::none();
+    CodedPack {
+        pack: old,
+        code: event::numbers::number(answer) as u64,
+    }
+}
+
+// The pack of a slot in place of the old one, if the slot has one.
+fn slot_or(p: Pack, old: Pack) -> CodedPack
+    ensures { λ r. ⌜ r ≡ slotOr p old ⌝ }
+{
+    if !pack_read::fitted(p) {
+        return refused(old, Answer::Inapplicable);
+    }
+    CodedPack { pack: p, code: 0 }
+}
+
+// What a file gives that is taken, or else its refusal.
+fn taken_or(answer: Reading, found: CodedPack, refused: CodedPack) -> CodedPack
+    ensures { λ r. ⌜ r ≡ takenOr answer found refused ⌝ }
+{
+    match answer {
+        Reading::Whole => found,
+        Reading::Refused(_, _) => refused,
+    }
+}
+
+// The pack in a slot, 1 to 7, of a file, in place of the old one, which a refusal leaves.
+pub fn pack_at(old: Pack, file: &[u8], slot: u32) -> CodedPack
+    ensures { λ r. ⌜ r ≡ packAtSlot old (now (file .entry)) slot ⌝ }
+{
+    if slot < 1 {
+        return refused(old, Answer::OutOfRange);
+    }
+    if slot > SLOT {
+        return refused(old, Answer::OutOfRange);
     }
     let found = read::read(file);
+    let answer = found.answer;
     let slots = found.slots;
-    chain_record::slots::pack_in(slots, slot as u8)
+    let p = chain_record::slots::pack_in(slots, slot as u8);
+    let kept = CodedPack {
+        pack: old,
+        code: fit::read_code(answer, 0),
+    };
+    taken_or(answer, slot_or(p, old), kept)
 }
 
 // A pack laid at the start of the lent part: 0, 33, 36 or 37.

@@ -7,7 +7,8 @@ use Rattle.pack_profile.specs.declared.Profile.{Profile}
 use Rattle.drive_record.specs.declared.State.{State}
 use Rattle.word_rules.specs.declared.Told.{Told}
 use Rattle.word_rules.specs.declared.Told.the-variants as telling
-use Rattle.word_rules.specs.Rules.{largestWord, plainOf}
+use Rattle.handshake.specs.Transfer.{largest}
+use Rattle.word_rules.specs.Rules.{plainOf}
 use Rattle.event.specs.declared.Answer.{Answer}
 use Rattle.event.specs.declared.Answer.the-variants.{Taken, OutOfRange, Malformed, Inapplicable}
 use Rattle.event.specs.Answer.{answerNumber}
@@ -52,5 +53,5 @@ unfoldable pub slotWord : Chain → ℕ → ℕ → Coded
 slotWord c slot n =
     if ltb slot 1 then refusedWord c OutOfRange
     else if ltb 7 slot then refusedWord c OutOfRange
-    else if ltb largestWord n then refusedWord c OutOfRange
+    else if ltb largest n then refusedWord c OutOfRange
     else wordAt c slot n

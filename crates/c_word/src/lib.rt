@@ -6,12 +6,17 @@ use chain_decision::Deed;
 use chain_decision::Sent;
 use chain_record::Chain;
 use chain_record::slots;
+use counts::LAST_SLOT;
 use drive_record::State;
 use event::Answer;
+use handshake::Transfer;
 use pack_profile::Profile;
 use word_rules::Told;
 ghost use mathlib.Core.Path.{_≡_};
 ghost use Rattle.c_word.specs.Words.{refusedWord, wordCode, stateIn, sentOf, wordAt, slotWord};
+
+// The last slot, as wide as a slot that C gives.
+const SLOT: u32 = LAST_SLOT as u32;
 
 fn refused(c: Chain, answer: Answer) -> Coded
     ensures { λ r. ⌜ r ≡ refusedWord c answer ⌝ }
@@ -84,10 +89,10 @@ pub fn word(c: Chain, slot: u32, n: u32) -> Coded
     if slot < 1 {
         return refused(c, Answer::OutOfRange);
     }
-    if slot > 7 {
+    if slot > SLOT {
         return refused(c, Answer::OutOfRange);
     }
-    if n > word_rules::LARGEST_WORD {
+    if n > Transfer::LARGEST {
         return refused(c, Answer::OutOfRange);
     }
     word_at(c, slot as u8, n)

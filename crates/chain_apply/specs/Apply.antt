@@ -4,7 +4,7 @@ use mathlib.Core.List.{List}
 use lib.ListN.{set}
 use Rattle.counts.specs.declared.Micros.{Micros}
 use Rattle.counts.specs.Choice.{if_then_else_}
-use Rattle.counts.specs.Slots.{mapWith}
+use Rattle.counts.specs.Slots.{slotB, mapWith}
 use Rattle.pack_read.specs.declared.Pack.{Pack}
 use Rattle.drive_record.specs.declared.State.{State}
 use Rattle.drive_rules.specs.Time as time
@@ -13,7 +13,6 @@ use Rattle.chain_decision.specs.declared.Change.{Change}
 use Rattle.chain_decision.specs.declared.Change.the-variants.{Nothing, One, Two, Pass}
 use Rattle.chain_decision.specs.declared.Decision.{Decision}
 use Rattle.pack_read.specs.Packs.{fittedB}
-use Rattle.chain_record.specs.Record.{slotB}
 
 unfoldable pub putOf : List State → ℕ → State → List State
 putOf states slot s = if slotB slot then set states (slot - 1) s else states

@@ -2,7 +2,9 @@
 use chain_decision::Change;
 use chain_decision::Decision;
 use chain_record::Chain;
+use counts::LAST_SLOT;
 use counts::Micros;
+use counts::SLOTS;
 use drive_record::State;
 use drive_rules::time;
 use pack_read::Pack;
@@ -10,13 +12,13 @@ ghost use mathlib.Core.Path.{_≡_};
 ghost use Rattle.chain_apply.specs.Apply.{putOf, passSlot, changedOf, applied};
 
 // The state of a slot put in place of what it was.
-fn put(states: [State; 7], slot: u8, s: State) -> [State; 7]
+fn put(states: [State; SLOTS], slot: u8, s: State) -> [State; SLOTS]
     ensures { λ r. ⌜ r ≡ putOf states slot s ⌝ }
 {
     if slot < 1 {
         return states;
     }
-    if slot > 7 {
+    if slot > LAST_SLOT {
         return states;
     }
     let i = (slot - 1) as usize;
@@ -37,7 +39,7 @@ fn pass_slot(p: Pack, s: State, us: Micros) -> State
 }
 
 // The states after a change.
-fn changed(packs: [Pack; 7], states: [State; 7], change: Change) -> [State; 7]
+fn changed(packs: [Pack; SLOTS], states: [State; SLOTS], change: Change) -> [State; SLOTS]
     ensures { λ r. ⌜ r ≡ changedOf packs states change ⌝ }
 {
     let mut out = states;
@@ -47,7 +49,7 @@ fn changed(packs: [Pack; 7], states: [State; 7], change: Change) -> [State; 7]
             if at < 1 {
                 return out;
             }
-            if at > 7 {
+            if at > LAST_SLOT {
                 return out;
             }
             out[(at - 1) as usize] = s;
@@ -55,7 +57,7 @@ fn changed(packs: [Pack; 7], states: [State; 7], change: Change) -> [State; 7]
         }
         Change::Two(slot, s, other, t) => put(put(out, slot, s), other, t),
         Change::Pass(us) => {
-            for i in 0..7 {
+            for i in 0..SLOTS {
                 let p = packs[i];
                 let s = out[i];
                 let t = pass_slot(p, s, us);

@@ -2,6 +2,7 @@
 use chain_record::Chain;
 use counts::Head;
 use counts::Place;
+use counts::SLOTS;
 use drive_record::State;
 use lines::Lines;
 use pack_read::Pack;
@@ -41,18 +42,18 @@ fn fresh_slot(p: Pack, s: State) -> State
     State::fresh(profile)
 }
 
-fn blank_states() -> [State; 7]
+fn blank_states() -> [State; SLOTS]
     ensures { λ r. ⌜ r ≡ blankStates ⌝ }
 {
     let none = State::blank();
-    [none; 7]
+    [none; SLOTS]
 }
 
-fn fresh_states(packs: [Pack; 7]) -> [State; 7]
+fn fresh_states(packs: [Pack; SLOTS]) -> [State; SLOTS]
     ensures { λ r. ⌜ r ≡ mapWith freshSlot packs blankStates ⌝ }
 {
     let mut out = blank_states();
-    for i in 0..7 {
+    for i in 0..SLOTS {
         let p = packs[i];
         let s = out[i];
         let t = fresh_slot(p, s);

@@ -38,7 +38,7 @@ pub fn head_lines(d: Seen, l: Lines, h: Head) -> Decision
     signal(d, l, m, same, Sent::Nothing, heads::meets(p, s, h))
 }
 
-fn write_rule(d: Seen, l: Lines, level: u8) -> Ruled
+fn write_rule(d: Seen, l: Lines, level: u16) -> Ruled
     ensures { λ r. ⌜ r ≡ writeRule d l level ⌝ }
 {
     let p = d.profile;
@@ -49,7 +49,7 @@ fn write_rule(d: Seen, l: Lines, level: u8) -> Ruled
     done(drive_gates::write_falls(s))
 }
 
-pub fn write_gate(d: Seen, l: Lines, level: u8) -> Decision
+pub fn write_gate(d: Seen, l: Lines, level: u16) -> Decision
     ensures { λ r. ⌜ r ≡ writeGateEvent d l level ⌝ }
 {
     let mut m = l;
@@ -58,7 +58,7 @@ pub fn write_gate(d: Seen, l: Lines, level: u8) -> Decision
     signal(d, l, m, same, Sent::Nothing, write_rule(d, l, level))
 }
 
-fn read_rule(d: Seen, l: Lines, level: u8) -> Ruled
+fn read_rule(d: Seen, l: Lines, level: u16) -> Ruled
     ensures { λ r. ⌜ r ≡ readRule d l level ⌝ }
 {
     let p = d.profile;
@@ -69,7 +69,7 @@ fn read_rule(d: Seen, l: Lines, level: u8) -> Ruled
     done(drive_gates::read_falls(s))
 }
 
-pub fn read_gate(d: Seen, l: Lines, level: u8) -> Decision
+pub fn read_gate(d: Seen, l: Lines, level: u16) -> Decision
     ensures { λ r. ⌜ r ≡ readGateEvent d l level ⌝ }
 {
     let mut m = l;

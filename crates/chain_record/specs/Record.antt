@@ -4,7 +4,7 @@ use mathlib.Core.Bool.{Bool}
 use mathlib.Core.List.{List}
 use lib.ListN.{getD}
 use Rattle.counts.specs.Choice.{if_then_else_}
-use Rattle.counts.specs.Tests.{within}
+use Rattle.counts.specs.Slots.{slotB}
 use Rattle.pack_read.specs.declared.Pack.{Pack}
 use Rattle.pack_read.specs.Packs.{noPack}
 use Rattle.drive_record.specs.declared.State.{State}
@@ -13,11 +13,7 @@ use Rattle.pack_read.specs.Packs.{fittedB}
 use Rattle.chain_record.specs.declared.Chain.{Chain}
 use Rattle.chain_record.specs.declared.Seen.{Seen}
 
--- a slot is 1 to 7, "0 = none"
-abbrev pub slotB : ℕ → Bool
-slotB slot = within 1 7 slot
-
--- the pack and the state of a slot
+-- the pack and the state of a slot, "0 = none"
 unfoldable pub slotPack : List Pack → ℕ → Pack
 slotPack packs slot = if slotB slot then getD packs (slot - 1) noPack else noPack
 

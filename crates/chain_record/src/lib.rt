@@ -2,6 +2,7 @@
 pub mod slots;
 
 use counts::Place;
+use counts::SLOTS;
 use drive_record::State;
 use lines::Lines;
 use pack_profile::Profile;
@@ -10,8 +11,8 @@ use pack_read::Pack;
 // What the packs say, what the drives are doing, the lines, and the file's length. An empty slot is not looked at.
 #[repr(C)]
 pub struct Chain {
-    pub packs: [Pack; 7],
-    pub states: [State; 7],
+    pub packs: [Pack; SLOTS],
+    pub states: [State; SLOTS],
     pub lines: Lines,
     pub length: Place,
 }

@@ -1,6 +1,8 @@
 // The slots of a chain, and the selected drive.
 use crate::Chain;
 use crate::Seen;
+use counts::LAST_SLOT;
+use counts::SLOTS;
 use drive_record::State;
 use pack_read::Pack;
 ghost use mathlib.Core.Path.{_≡_};
@@ -8,25 +10,25 @@ ghost use Prim.Native.Nat.{_-_};
 ghost use Rattle.chain_record.specs.Record.{slotPack, slotState, lookOf};
 
 // The pack in a slot, 1 to 7; 0 and what is past 7 has none.
-pub fn pack_in(packs: [Pack; 7], slot: u8) -> Pack
+pub fn pack_in(packs: [Pack; SLOTS], slot: u8) -> Pack
     ensures { λ r. ⌜ r ≡ slotPack packs slot ⌝ }
 {
     if slot < 1 {
         return Pack::none();
     }
-    if slot > 7 {
+    if slot > LAST_SLOT {
         return Pack::none();
     }
     packs[(slot - 1) as usize]
 }
 
-pub fn state_in(states: [State; 7], slot: u8) -> State
+pub fn state_in(states: [State; SLOTS], slot: u8) -> State
     ensures { λ r. ⌜ r ≡ slotState states slot ⌝ }
 {
     if slot < 1 {
         return State::blank();
     }
-    if slot > 7 {
+    if slot > LAST_SLOT {
         return State::blank();
     }
     states[(slot - 1) as usize]

@@ -7,24 +7,25 @@ use mathlib.Core.List.{List}
 use lib.Dec.{eqb}
 use lib.ListN.{length, getD, drop, drop-of-length-le}
 use lib.Seq.{drop-cons}
+use Rattle.counts.specs.declared.Place.{Place}
 use Rattle.counts.specs.Choice.{if_then_else_}
 use Rattle.pack_read.specs.declared.Pack.{Pack}
 use Rattle.chain_sound.specs.declared.Placed.{Placed}
-use Rattle.chain_sound.specs.SoundChain.{placedOf, placesB}
+use Rattle.chain_sound.specs.SoundChain.{placedOf, fileStart, placesB}
 
-module _ (packs : List Pack) (i at len : ℕ) (z : Pack) (h : i < length packs) (r : Placed) (e : r ≡ placedOf (getD packs i z) (i + 1) at) where
+module _ (packs : List Pack) (i : ℕ) (at len : Place) (z : Pack) (h : i < length packs) (r : Placed) (e : r ≡ placedOf (getD packs i z) (i + 1) at) where
   first-out : placesB (drop i packs) (i + 1) at len ≡ (if not (r .ok) then false else placesB (drop (i + 1) packs) (i + 1 + 1) (r .end) len)
   first-out = rw (drop-cons packs i z h, ← e, add-one i)
 
   -- one that may not stand
-  pub place-fails : placesB packs 1 0 len ≡ placesB (drop i packs) (i + 1) at len → r .ok ≡ false → placesB packs 1 0 len ≡ false
+  pub place-fails : placesB packs 1 fileStart len ≡ placesB (drop i packs) (i + 1) at len → r .ok ≡ false → placesB packs 1 fileStart len ≡ false
   place-fails p q = p ∙ first-out ∙ rw q
 
   -- one more that may
-  pub place-more : placesB packs 1 0 len ≡ placesB (drop i packs) (i + 1) at len → r .ok ≡ true
-      → placesB packs 1 0 len ≡ placesB (drop (i + 1) packs) (i + 1 + 1) (r .end) len
+  pub place-more : placesB packs 1 fileStart len ≡ placesB (drop i packs) (i + 1) at len → r .ok ≡ true
+      → placesB packs 1 fileStart len ≡ placesB (drop (i + 1) packs) (i + 1 + 1) (r .end) len
   place-more p q = p ∙ first-out ∙ rw q
 
-pub place-done : (packs : List Pack) (i at len : ℕ) → length packs ≤ i
-    → placesB packs 1 0 len ≡ placesB (drop i packs) (i + 1) at len → placesB packs 1 0 len ≡ eqb at len
+pub place-done : (packs : List Pack) (i : ℕ) (at len : Place) → length packs ≤ i
+    → placesB packs 1 fileStart len ≡ placesB (drop i packs) (i + 1) at len → placesB packs 1 fileStart len ≡ eqb (at .0) (len .0)
 place-done packs i at len h p = p ∙ ap (λ (l : List Pack). placesB l (i + 1) at len) (drop-of-length-le packs {i = i} h)

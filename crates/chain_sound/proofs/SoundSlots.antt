@@ -5,14 +5,14 @@ use mathlib.Core.List.{List, [], _∷_}
 use mathlib.Core.Logic.{_⊎_, ⊎-elim}
 use Prim.Native.Nat.{ℕ, zero, suc, _+_, _-_, _≤_, _<_}
 use native.Mathlib.Omega.{arith}
-use borrow.Author.Tests.{eqb-true, eq-eqb, ltb-false}
+use borrow.Author.Tests.{eqb-true, eq-eqb}
 use lib.Arith.{digits-lt}
 use lib.Dec.{ltb, eqb}
 use lib.ListN.{getD}
-use Rattle.pack_trailer.specs.Form.{trailerLength}
+use Rattle.counts.specs.declared.Place.{Place}
 use Rattle.counts.specs.declared.Position.{Position}
 use Rattle.counts.specs.Choice.{if_then_else_}
-use Rattle.counts.specs.Slots.{allWith}
+use Rattle.counts.specs.Slots.{slotB, allWith}
 use Rattle.counts.proofs.Choice.{guarded}
 use Rattle.counts.proofs.Slots.{all-at}
 use Rattle.counts.proofs.Tests.{each, within-both}
@@ -31,79 +31,75 @@ use Rattle.drive_cable.proofs.OnCable.{Selected, selected, writes, reads}
 use Rattle.chain_record.specs.declared.Chain.{Chain}
 use Rattle.chain_record.specs.declared.Seen.{Seen}
 use Rattle.chain_sound.specs.declared.Placed.{Placed}
-use Rattle.chain_record.specs.Record.{slotB, slotPack, slotState, lookOf}
+use Rattle.chain_record.specs.Record.{slotPack, slotState, lookOf}
 use Rattle.chain_decision.specs.Deeds.{spotPlace}
 use Rattle.chain_others.specs.Cell.{cellSpot}
-use Rattle.chain_sound.specs.SoundChain.{packTests, packB, placedOf, placesB, driveB, chainSoundB}
-
-unless : (a b : Bool) → (if a then false else b) ≡ true → (a ≡ false) × (b ≡ true)
-unless true b h = absurd (false≢true h)
-unless false b h = (refl, h)
+use Rattle.chain_sound.specs.SoundChain.{packTests, packB, packEnd, placedOf, fileStart, placesB, driveB, chainSoundB}
 
 pub record Sound (c : Chain) : Type 0 where
   pub lines : linesB (c .lines) ≡ true
-  pub long : c .length .0 ≤ longestFile
-  pub places : placesB (c .packs) 1 0 (c .length .0) ≡ true
+  pub places : placesB (c .packs) 1 fileStart (c .length) ≡ true
   pub drives : allWith (driveB (c .lines)) (c .packs) (c .states) ≡ true
 
 pub sound : (c : Chain) → chainSoundB c ≡ true → Sound c
 unfolding chainSoundB
 sound c h =
     let a = guarded (linesB (c .lines)) _ h in
-    let b = unless (ltb longestFile (c .length .0)) _ (a .1) in
-    let d = guarded (placesB (c .packs) 1 0 (c .length .0)) _ (b .1) in
-    record { lines = a .0; long = ltb-false _ _ (b .0); places = d .0; drives = d .1 }
+    let b = guarded (placesB (c .packs) 1 fileStart (c .length)) _ (a .1) in
+    record { lines = a .0; places = b .0; drives = b .1 }
 
 -- a fitted pack, in its own slot and within the file
 pub record InFile (slot len : ℕ) (p : Pack) : Type 0 where
   pub own : p .profile .slot ≡ slot
   pub valid : validB (p .profile) ≡ true
-  pub within : p .place .0 + mediumOf (p .profile .shape) + trailerLength ≤ len
+  pub within : packEnd p ≤ len
 
--- what is placed, by its two tests
-abbrev placedBy : Bool → Bool → Bool → ℕ → ℕ → Placed
-placedBy a b ok at end =
+-- what is placed, by its tests
+abbrev placedBy : Bool → Bool → Bool → Bool → Place → ℕ → Placed
+placedBy a b long ok at end =
     if a then record { ok = false; end = at }
     else if not b then record { ok = true; end = at }
-    else record { ok = ok; end = end }
+    else if long then record { ok = false; end = at }
+    else record { ok = ok; end = record { 0 = end } }
 
-goes-on : (a b ok : Bool) (at end : ℕ) → (ok ≡ true → at ≤ end) → placedBy a b ok at end .ok ≡ true → at ≤ placedBy a b ok at end .end
-goes-on true b ok at end k h = absurd (false≢true h)
-goes-on false false ok at end k h = omega arith
-goes-on false true ok at end k h = k h
+goes-on : (a b long ok : Bool) (at : Place) (end : ℕ) → (ok ≡ true → at .0 ≤ end) → placedBy a b long ok at end .ok ≡ true
+    → at .0 ≤ placedBy a b long ok at end .end .0
+goes-on true b long ok at end k h = absurd (false≢true h)
+goes-on false false long ok at end k h = omega arith
+goes-on false true true ok at end k h = absurd (false≢true h)
+goes-on false true false ok at end k h = k h
 
-holds : (a b ok : Bool) (at end : ℕ) → placedBy a b ok at end .ok ≡ true → b ≡ true → (ok ≡ true) × (placedBy a b ok at end .end ≡ end)
-holds true b ok at end h e = absurd (false≢true h)
-holds false false ok at end h e = absurd (false≢true e)
-holds false true ok at end h e = (h, refl)
+holds : (a b long ok : Bool) (at : Place) (end : ℕ) → placedBy a b long ok at end .ok ≡ true → b ≡ true
+    → (ok ≡ true) × (placedBy a b long ok at end .end .0 ≡ end)
+holds true b long ok at end h e = absurd (false≢true h)
+holds false false long ok at end h e = absurd (false≢true e)
+holds false true true ok at end h e = absurd (false≢true h)
+holds false true false ok at end h e = (h, refl)
 
-module _ (p : Pack) (slot at : ℕ) (h : placedOf p slot at .ok ≡ true) where
-  abbrev behind : ℕ
-  behind = p .place .0 + mediumOf (p .profile .shape) + trailerLength
-
+module _ (p : Pack) (slot : ℕ) (at : Place) (h : placedOf p slot at .ok ≡ true) where
   -- the packs only go forward
-  forward : at ≤ placedOf p slot at .end
+  forward : at .0 ≤ placedOf p slot at .end .0
   unfolding placedOf
   forward =
-      goes-on (ltb 1 (p .fitted)) (eqb (p .fitted) 1) (packB p slot at) at behind
-      (λ ok. omega (arith, eqb-true (p .place .0) at (each (packTests p slot at) ok .1 .0))) h
+      goes-on (ltb 1 (p .fitted)) (eqb (p .fitted) 1) (ltb longestFile (packEnd p)) (packB p slot at) at (packEnd p)
+      (λ ok. omega (arith, eqb-true (p .place .0) (at .0) (each (packTests p slot at) ok .1 .0))) h
 
-  stands : p .fitted ≡ 1 → InFile slot (placedOf p slot at .end) p
+  stands : p .fitted ≡ 1 → InFile slot (placedOf p slot at .end .0) p
   unfolding placedOf
   stands f =
-      let r = holds (ltb 1 (p .fitted)) (eqb (p .fitted) 1) (packB p slot at) at behind h (eq-eqb _ _ f) in
+      let r = holds (ltb 1 (p .fitted)) (eqb (p .fitted) 1) (ltb longestFile (packEnd p)) (packB p slot at) at (packEnd p) h (eq-eqb _ _ f) in
       let e = each (packTests p slot at) (r .0) in
       record { own = eqb-true _ _ (e .0); valid = e .1 .1 .0; within = omega (arith, r .1) }
 
-ends : (packs : List Pack) (slot at len : ℕ) → placesB packs slot at len ≡ true → at ≤ len
-ends [] slot at len h = omega (arith, eqb-true at len h)
+ends : (packs : List Pack) (slot : ℕ) (at len : Place) → placesB packs slot at len ≡ true → at .0 ≤ len .0
+ends [] slot at len h = omega (arith, eqb-true (at .0) (len .0) h)
 ends (p ∷ packs) slot at len h =
     let g = guarded (placedOf p slot at .ok) _ h in
     omega (arith, forward p slot at (g .0), ends packs (slot + 1) (placedOf p slot at .end) len (g .1))
 
 -- each fitted pack stands in its own slot, within the file
-pub placed-at : (packs : List Pack) (slot at len i : ℕ) → placesB packs slot at len ≡ true → getD packs i noPack .fitted ≡ 1
-    → InFile (slot + i) len (getD packs i noPack)
+pub placed-at : (packs : List Pack) (slot : ℕ) (at len : Place) (i : ℕ) → placesB packs slot at len ≡ true → getD packs i noPack .fitted ≡ 1
+    → InFile (slot + i) (len .0) (getD packs i noPack)
 placed-at [] slot at len i h f = absurd (omega arith)
 placed-at (p ∷ packs) slot at len zero h f =
     let g = guarded (placedOf p slot at .ok) _ h in
@@ -154,7 +150,7 @@ chosen c h on =
     let ep : slotPack (c .packs) k ≡ getD (c .packs) (k - 1) noPack = pack-there k (c .packs) b in
     let es : slotState (c .states) k ≡ getD (c .states) (k - 1) blankState = state-there k (c .states) b in
     let g : getD (c .packs) (k - 1) noPack .fitted ≡ 1 = ap (λ (p : Pack). p .fitted) (sym ep) ∙ f in
-    let q = placed-at (c .packs) 1 0 (c .length .0) (k - 1) (s .places) g in
+    let q = placed-at (c .packs) 1 fileStart (c .length) (k - 1) (s .places) g in
     let d = drives (c .lines) _ _ (all-at (driveB (c .lines)) noPack blankState (blank-drive (c .lines)) (c .packs) (c .states) (k - 1) (s .drives)) g (omega arith) in
     let i : InFile k (c .length .0) (getD (c .packs) (k - 1) noPack) = record { own = omega arith; valid = q .valid; within = q .within } in
     record { pack = rw ep i; drive = rw (ep, es) d }

@@ -1,28 +1,30 @@
 // When the chain record is one that the rules could leave.
 use chain_record::Chain;
+use counts::Place;
+use counts::SLOTS;
 use drive_cable::sound;
 use drive_record::State;
 use lines::Lines;
 use pack_read::Pack;
 ghost use mathlib.Core.Path.{_≡_};
 ghost use Rattle.counts.specs.Slots.{allWith};
-ghost use Rattle.chain_sound.specs.SoundChain.{packB, placedOf, placesB, driveB, chainSoundB};
+ghost use Rattle.chain_sound.specs.SoundChain.{packB, placedOf, fileStart, placesB, driveB, chainSoundB};
 
 // A fitted slot's pack: valid, in its own slot, and where the packs in front of it end.
-fn pack_ok(p: Pack, slot: u8, at: usize) -> bool
+fn pack_ok(p: Pack, slot: u8, at: Place) -> bool
     ensures { λ r. ⌜ r ≡ packB p slot at ⌝ }
 {
     let profile = p.profile;
-    (profile.slot == slot) & (p.place.0 as usize == at) & pack_profile::valid::valid(profile)
+    (profile.slot == slot) & (p.place.0 == at.0) & pack_profile::valid::valid(profile)
 }
 
 // Whether a slot's pack may stand, and where the packs up to it end.
 pub struct Placed {
     pub ok: bool,
-    pub end: usize,
+    pub end: Place,
 }
 
-fn place(p: Pack, slot: u8, at: usize) -> Placed
+fn place(p: Pack, slot: u8, at: Place) -> Placed
     ensures { λ r. ⌜ r ≡ placedOf p slot at ⌝ }
 {
     if p.fitted > 1 {
@@ -32,18 +34,22 @@ fn place(p: Pack, slot: u8, at: usize) -> Placed
         return Placed { ok: true, end: at };
     }
     let shape = p.profile.shape;
+    let end = p.place.0 as usize + pack_profile::medium(shape) + pack_trailer::LENGTH;
+    if end > Pack::LONGEST {
+        return Placed { ok: false, end: at };
+    }
     Placed {
         ok: pack_ok(p, slot, at),
-        end: p.place.0 as usize + pack_profile::medium(shape) + pack_trailer::LENGTH,
+        end: Place(end as u32),
     }
 }
 
 // Every pack stands where reading the file would put it, and the last ends at the file's end.
-fn places_ok(packs: [Pack; 7], end: u32) -> bool
-    ensures { λ r. ⌜ r ≡ placesB packs 1 0 end ⌝ }
+fn places_ok(packs: [Pack; SLOTS], end: Place) -> bool
+    ensures { λ r. ⌜ r ≡ placesB packs 1 fileStart end ⌝ }
 {
-    let mut at: usize = 0;
-    for i in 0..7 {
+    let mut at = Place(0);
+    for i in 0..SLOTS {
         let p = packs[i];
         let placed = place(p, i as u8 + 1, at);
         if !placed.ok {
@@ -51,7 +57,7 @@ fn places_ok(packs: [Pack; 7], end: u32) -> bool
         }
         at = placed.end;
     }
-    at == end as usize
+    at.0 == end.0
 }
 
 fn drive_ok(p: Pack, s: State, l: Lines) -> bool
@@ -64,10 +70,10 @@ fn drive_ok(p: Pack, s: State, l: Lines) -> bool
     sound::sound(profile, s, l, l.select == profile.slot)
 }
 
-fn drives_ok(packs: [Pack; 7], states: [State; 7], l: Lines) -> bool
+fn drives_ok(packs: [Pack; SLOTS], states: [State; SLOTS], l: Lines) -> bool
     ensures { λ r. ⌜ r ≡ allWith (driveB l) packs states ⌝ }
 {
-    for i in 0..7 {
+    for i in 0..SLOTS {
         let p = packs[i];
         let s = states[i];
         if !drive_ok(p, s, l) {
@@ -84,13 +90,11 @@ pub fn is_sound(c: Chain) -> bool
     let l = c.lines;
     let packs = c.packs;
     let states = c.states;
+    let length = c.length;
     if !lines::kept(l) {
         return false;
     }
-    if c.length.0 as usize > Pack::LONGEST {
-        return false;
-    }
-    if !places_ok(packs, c.length.0) {
+    if !places_ok(packs, length) {
         return false;
     }
     drives_ok(packs, states, l)

@@ -4,6 +4,7 @@ use chain_decision::Deed;
 use chain_decision::Spot;
 use chain_record::Chain;
 use chain_record::slots;
+use counts::SLOTS;
 use drive_gates::cell;
 use event::Answer;
 use pack_read::Pack;
@@ -24,7 +25,7 @@ pub struct Stepped {
 }
 
 // Where in the file a cell stands.
-fn place_of(packs: [Pack; 7], s: Spot) -> usize
+fn place_of(packs: [Pack; SLOTS], s: Spot) -> usize
     ensures { λ r. ⌜ r ≡ spotPlace packs s ⌝ }
 {
     let cylinder = s.cylinder;
@@ -36,7 +37,7 @@ fn place_of(packs: [Pack; 7], s: Spot) -> usize
 }
 
 // The one place that touches the file: one byte read, one byte written, or nothing.
-fn obey(packs: [Pack; 7], file: &mut [u8], deed: Deed) -> Answer
+fn obey(packs: [Pack; SLOTS], file: &mut [u8], deed: Deed) -> Answer
     requires { ⌜ Fits packs (length (now file)) deed ⌝ }
     ensures { λ r. ⌜ Obeyed packs deed (now (file .entry)) r (now (file .exit)) ⌝ }
 {

@@ -8,6 +8,9 @@ use lib.ListN.{length, getD}
 use Rattle.counts.specs.Bytes.{Bytes}
 
 -- a number is what its bytes say
+pub one-back : (v : ℕ) → v < 256 → v % 256 ≡ v
+one-back v h = omega arith
+
 pub two-back : (v : ℕ) → v < 65_536 → v / 256 % 256 * 256 + v % 256 ≡ v
 two-back v h = omega arith
 
@@ -32,6 +35,9 @@ as-listed (x ∷ t) = ap (λ (l : List ℕ). x ∷ l) (as-listed t)
 
 -- the bytes of the number that stands in a list of bytes are those that stand there
 module _ (t : List ℕ) (small : Bytes t) where
+  pub only-byte : (i : ℕ) → getD t i 0 % 256 ≡ getD t i 0
+  only-byte i = omega (arith, small i)
+
   pub first-of-two : (i j : ℕ) → (getD t i 0 * 256 + getD t j 0) / 256 % 256 ≡ getD t i 0
   first-of-two i j = omega (arith, small i, small j)
 

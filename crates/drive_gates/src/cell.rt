@@ -1,21 +1,22 @@
 // Which byte of the medium a cell meets.
 use counts::Cylinder;
 use counts::Head;
+use counts::Heads;
 use counts::Position;
 use pack_profile::Profile;
 ghost use mathlib.Core.Path.{_≡_};
 ghost use Prim.Native.Nat.{_<_};
 ghost use Rattle.drive_gates.specs.CellPlace.{Track, cellInTrack, InMedium};
 
-fn track(cylinder: u16, heads: u8, head: u8) -> usize
+fn track(cylinder: Cylinder, heads: Heads, head: Head) -> usize
     ensures { λ r. ⌜ Track cylinder heads head r ⌝ }
 {
-    cylinder as usize * heads as usize + head as usize
+    cylinder.0 as usize * heads.0 as usize + head.0 as usize
 }
 
 fn cell(track: usize, bytes: u16, position: u16) -> usize
-    requires { ⌜ track < 16_777_216 ⌝ }
-    ensures { λ r. ⌜ (r ≡ cellInTrack track bytes position) × (r < 1_099_511_627_776) ⌝ }
+    requires { ⌜ track < 4_294_967_296 ⌝ }
+    ensures { λ r. ⌜ (r ≡ cellInTrack track bytes position) × (r < 281_474_976_710_656) ⌝ }
 {
     track * bytes as usize + position as usize
 }
@@ -24,6 +25,7 @@ fn cell(track: usize, bytes: u16, position: u16) -> usize
 pub fn place(p: Profile, cylinder: Cylinder, head: Head, position: Position) -> usize
     ensures { λ r. ⌜ InMedium p cylinder head position r ⌝ }
 {
-    let n = track(cylinder.0, p.shape.heads.0, head.0);
+    let heads = p.shape.heads;
+    let n = track(cylinder, heads, head);
     cell(n, p.shape.track.0, position.0)
 }

@@ -17,7 +17,10 @@ pub fn usable(p: Profile, s: State) -> bool
     ensures { λ r. ⌜ r ≡ usableB p s ⌝ }
 {
     let b = s.body;
-    status::ready(b) & status::complete(s) & (b.arm.lost == 0) & (b.head.0 < p.shape.heads.0)
+    status::ready(b)
+        & status::complete(s)
+        & (b.arm.lost == 0)
+        & ((b.head.0 as u16) < p.shape.heads.0)
 }
 
 fn faulted(s: State, b: Body, bit: u16) -> Ruled
@@ -32,7 +35,7 @@ fn faulted(s: State, b: Body, bit: u16) -> Ruled
 }
 
 // Write gate rising; readgate is the read gate's level.
-pub fn write_rises(p: Profile, s: State, readgate: u8) -> Ruled
+pub fn write_rises(p: Profile, s: State, readgate: u16) -> Ruled
     ensures { λ r. ⌜ r ≡ writeRises p readgate s ⌝ }
 {
     let b = s.body;
@@ -73,7 +76,7 @@ pub fn write_falls(s: State) -> State
 }
 
 // Read gate rising; writegate is the write gate's level.
-pub fn read_rises(p: Profile, s: State, writegate: u8) -> Ruled
+pub fn read_rises(p: Profile, s: State, writegate: u16) -> Ruled
     ensures { λ r. ⌜ r ≡ readRises p writegate s ⌝ }
 {
     let b = s.body;

@@ -7,7 +7,7 @@ use Rattle.counts.specs.Bytes.{bit}
 use Rattle.counts.specs.Tests.{allOf}
 use Rattle.pack_profile.specs.declared.Profile.{Profile}
 use Rattle.pack_profile.specs.General.{soft}
-use Rattle.pack_profile.specs.Valid.{sectorOk}
+use Rattle.pack_profile.specs.Valid.{sectorOk, short, long}
 use Rattle.drive_record.specs.declared.Latched.{Latched}
 use Rattle.drive_record.specs.declared.Arm.{Arm}
 use Rattle.drive_record.specs.declared.Timers.{Timers}
@@ -22,10 +22,14 @@ armTests p a =
 abbrev pub armB : Profile → Arm → Bool
 armB p a = allOf (armTests p a)
 
+-- "head ≤ 15": apart from the head lines' own limit
+abbrev pub lastHead : ℕ
+lastHead = 15
+
 -- "busy ≤ 30,000,000, head timer ≤ 60,000"
 abbrev pub timerTests : Timers → List Bool
 timerTests t =
-    leb (t .busy .0) 30_000_000 ∷ leb (t .head .0) 60_000 ∷ []
+    leb (t .busy .0) long ∷ leb (t .head .0) short ∷ []
 
 abbrev pub timersB : Timers → Bool
 timersB t = allOf (timerTests t)
@@ -52,7 +56,7 @@ limitTests p b =
     timersB (b .timers) ∷
     latchedB (b .latched) ∷
     sectorOk (soft (p .general)) (b .sector .0) ∷
-    leb (b .head .0) 15 ∷  -- "head ≤ 15"
+    leb (b .head .0) lastHead ∷  -- "head ≤ 15"
     motorB (b .motor) (b .timers .busy .0) ∷
     leb (b .reading) 1 ∷
     leb (b .writing) 1 ∷ []

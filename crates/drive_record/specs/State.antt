@@ -1,7 +1,7 @@
 -- A drive's state: a setter for each part that changes, the fresh drive, and what stands where no drive is.
 use Prim.Native.Nat.{ℕ}
 use Rattle.counts.specs.declared.Head.{Head}
-use Rattle.counts.specs.declared.Position.{Position}
+use Rattle.counts.specs.declared.SectorSize.{SectorSize}
 use Rattle.pack_profile.specs.declared.Profile.{Profile}
 use Rattle.handshake.specs.declared.Transfer.{Transfer}
 use Rattle.handshake.specs.Transfer.{noTransfer}
@@ -32,7 +32,7 @@ with-arm x b = record { timers = b .timers; arm = x; latched = b .latched; secto
 abbrev pub with-latched : Latched → Body → Body
 with-latched x b = record { timers = b .timers; arm = b .arm; latched = x; sector = b .sector; head = b .head; motor = b .motor; reading = b .reading; writing = b .writing }
 
-abbrev pub with-sector : Position → Body → Body
+abbrev pub with-sector : SectorSize → Body → Body
 with-sector x b = record { timers = b .timers; arm = b .arm; latched = b .latched; sector = x; head = b .head; motor = b .motor; reading = b .reading; writing = b .writing }
 
 abbrev pub with-head : Head → Body → Body

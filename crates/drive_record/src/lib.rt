@@ -6,9 +6,10 @@ pub mod status;
 use counts::Cylinder;
 use counts::Head;
 use counts::Micros;
-use counts::Position;
+use counts::SectorSize;
 use handshake::Transfer;
 use pack_profile::Profile;
+use pack_profile::Times;
 ghost use mathlib.Core.Path.{_≡_};
 ghost use Rattle.drive_record.specs.State.{freshBody, blankBody, freshOf, blankState};
 
@@ -37,7 +38,7 @@ pub struct Body {
     pub timers: Timers,
     pub arm: Arm,
     pub latched: Latched,
-    pub sector: Position,
+    pub sector: SectorSize,
     pub head: Head,
     pub motor: u8,
     pub reading: u8,
@@ -97,9 +98,9 @@ impl Body {
     // The highest head, the longest busy time and the longest head switch that a record may hold.
     pub const LAST_HEAD: u8 = 15;
 
-    pub const LONGEST_BUSY: u32 = 30_000_000;
+    pub const LONGEST_BUSY: u32 = Times::LONG;
 
-    pub const LONGEST_SWITCH: u32 = 60_000;
+    pub const LONGEST_SWITCH: u32 = Times::SHORT;
 
     fn fresh(p: Profile) -> Body
         ensures { λ r. ⌜ r ≡ freshBody p ⌝ }
@@ -143,7 +144,7 @@ impl Body {
             timers,
             arm,
             latched: Latched(0),
-            sector: Position(0),
+            sector: SectorSize(0),
             head: Head(0),
             motor: 0,
             reading: 0,

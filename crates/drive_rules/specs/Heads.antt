@@ -3,6 +3,7 @@ use lib.Dec.{ltb, eqb}
 use Rattle.counts.specs.declared.Head.{Head}
 use Rattle.counts.specs.Choice.{if_then_else_}
 use Rattle.pack_profile.specs.declared.Profile.{Profile}
+use Rattle.pack_profile.specs.General.{atOnce}
 use Rattle.drive_record.specs.declared.Body.{Body}
 use Rattle.drive_record.specs.declared.State.{State}
 use Rattle.drive_record.specs.declared.Outcome.the-variants.{Done, Fault}
@@ -13,7 +14,7 @@ use Rattle.drive_record.specs.Faults.{latchBit}
 -- "Where the profile's switch time is over 15 µs, the head timer starts at it."
 abbrev pub startSwitch : Profile → Body → Body
 startSwitch p b =
-    if ltb 15 (p .times .switch .0) then with-timers (record { busy = b .timers .busy; head = p .times .switch }) b
+    if ltb atOnce (p .times .switch .0) then with-timers (record { busy = b .timers .busy; head = p .times .switch }) b
     else b
 
 -- "It ends reading."

@@ -7,17 +7,18 @@ use drive_record::Ruled;
 use drive_record::State;
 use drive_record::faults;
 use pack_profile::Profile;
+use pack_profile::Times;
 ghost use mathlib.Core.Path.{_≡_};
 ghost use Rattle.drive_rules.specs.Heads.{switchedOf, headChange, metOf};
 
-// The drive takes the new head. The head timer starts where the switch time is over 15 µs. Reading ends.
+// The drive takes the new head. The head timer starts where the switch is not at once. Reading ends.
 fn switched(p: Profile, b: Body, h: Head) -> Body
     ensures { λ r. ⌜ r ≡ switchedOf p h b ⌝ }
 {
     let mut e = b;
     e.head = h;
     e.reading = 0;
-    if p.times.switch.0 > 15 {
+    if p.times.switch.0 > Times::AT_ONCE {
         let mut timers = b.timers;
         let switch = p.times.switch;
         timers.head = switch;

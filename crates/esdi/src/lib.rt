@@ -1,20 +1,21 @@
 // What C calls: the record and the file lent, the answer as a number.
 use c_pack::Coded;
+use c_pack::CodedPack;
 use chain_record::Chain;
 use chain_step::Performed;
+use event::Answer;
 use pack_profile::Profile;
 use pack_read::Pack;
 ghost use mathlib.Core.Path.{_≡_};
 ghost use lib.ListN.{length};
 ghost use Rattle.pack_lay.specs.Lay.{laidNumber, laidAnswer, laidBytes};
-ghost use Rattle.chain_decide.specs.Shown.{lineSum};
 ghost use Rattle.c_pack.specs.Fit.{lentFit};
 ghost use Rattle.c_pack.specs.FilePacks.{packsOf, packAtSlot};
 ghost use Rattle.c_word.specs.Words.{slotWord};
 ghost use Rattle.c_layout.specs.Marks.{markedChain};
 ghost use Rattle.chain_apply.specs.Apply.{applied};
 ghost use Rattle.chain_step.specs.Step.{stepOf, stepFile};
-ghost use Rattle.esdi.specs.Call.{answerCode};
+ghost use Rattle.esdi.specs.Call.{answerCode, linesCode};
 
 // The record with what was decided put into it.
 fn changed(c: Chain, p: Performed) -> Chain
@@ -32,6 +33,16 @@ fn answer_code(p: Performed) -> u32
     event::numbers::number(answer) as u32 + event::numbers::value(answer) as u32 * 256
 }
 
+// What the selected drive shows, in the second byte; or that the record is malformed.
+fn lines_code(c: Chain) -> u32
+    ensures { λ r. ⌜ r ≡ linesCode c ⌝ }
+{
+    if !chain_sound::is_sound(c) {
+        return event::numbers::number(Answer::Malformed) as u32;
+    }
+    chain_decide::shown::line_sum(c) as u32 * 256
+}
+
 fn chain_of(t: Coded) -> Chain
     ensures { λ r. ⌜ r ≡ t .chain ⌝ }
 {
@@ -42,6 +53,18 @@ fn code_of(t: Coded) -> u64
     ensures { λ r. ⌜ r ≡ t .code ⌝ }
 {
     t.code
+}
+
+fn pack_of(p: CodedPack) -> Pack
+    ensures { λ r. ⌜ r ≡ p .pack ⌝ }
+{
+    p.pack
+}
+
+fn pack_code(p: CodedPack) -> u64
+    ensures { λ r. ⌜ r ≡ p .code ⌝ }
+{
+    p.code
 }
 
 // An event on the lent record and file. A decision is small: the record is copied in and stored back once.
@@ -86,11 +109,11 @@ pub extern "C" fn esdi_word(c: &mut Chain, slot: u32, word: u32) -> u64
 
 // What the selected drive of the lent record shows.
 #[no_mangle]
-pub extern "C" fn esdi_lines(c: &Chain) -> u8
-    ensures { λ r. ⌜ r ≡ lineSum (now (c .entry)) ⌝ }
+pub extern "C" fn esdi_lines(c: &Chain) -> u32
+    ensures { λ r. ⌜ r ≡ linesCode (now (c .entry)) ⌝ }
 {
     let old = *c;
-    chain_decide::shown::line_sum(old)
+    lines_code(old)
 }
 
 // The lent record filled with marks.
@@ -111,10 +134,14 @@ pub extern "C" fn esdi_packs(file: &[u8]) -> u64
 
 // The pack in a slot of a pack file, into the lent one.
 #[no_mangle]
-pub extern "C" fn esdi_pack_at<'a, 'b>(pack: &'a mut Pack, file: &'b [u8], slot: u32)
-    ensures { λ _. ⌜ now (pack .exit) ≡ packAtSlot (now (file .entry)) slot ⌝ }
+pub extern "C" fn esdi_pack_at<'a, 'b>(pack: &'a mut Pack, file: &'b [u8], slot: u32) -> u64
+    ensures { λ r. ⌜ (now (pack .exit) ≡ packAtSlot (now (pack .entry)) (now (file .entry)) slot .pack)
+        × (r ≡ packAtSlot (now (pack .entry)) (now (file .entry)) slot .code) ⌝ }
 {
-    *pack = c_pack::packs::pack_at(file, slot);
+    let old = *pack;
+    let found = c_pack::packs::pack_at(old, file, slot);
+    *pack = pack_of(found);
+    pack_code(found)
 }
 
 // A pack of the lent profile laid at the start of the lent part.

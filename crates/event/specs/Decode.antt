@@ -7,7 +7,8 @@ use Rattle.event.specs.declared.Event.{Event}
 use Rattle.event.specs.declared.Event.the-variants.{Select, Heads, WriteGate, ReadGate, Data, Request, Pass, Cell, Condition}
 use Rattle.event.specs.declared.Decoded.{Decoded}
 use Rattle.event.specs.declared.Decoded.the-variants.{Is, Unknown, Range}
-use Rattle.event.specs.Operands.{isSelectCode, isHead, isLevel, isSpan, isPosition, isByte, isSlot, isCondition, strayB}
+use Rattle.counts.specs.Slots.{slotB}
+use Rattle.event.specs.Operands.{isSelectCode, isHeadLines, isLevel, isSpan, isPosition, isByte, isCondition, strayB}
 
 -- "21 | operand out of range"
 unfoldable pub ranged : Bool → Event → Decoded
@@ -25,11 +26,11 @@ levelLine kind a =
 unfoldable pub kindRow : ℕ → ℕ → ℕ → Decoded
 kindRow kind a b =
     if eqb kind 0 then ranged (isSelectCode a) (Select a)  -- "0 | drive select code | 0..7 (0 = none)"
-    else if eqb kind 1 then ranged (isHead a) (Heads (record { 0 = a }))  -- "1 | head lines | 0..15"
+    else if eqb kind 1 then ranged (isHeadLines a) (Heads (record { 0 = a }))  -- "1 | head lines | 0..15"
     else if leb kind 5 then ranged (isLevel a) (levelLine kind a)  -- "2, 3, 4, 5 | .. | 0/1"
     else if eqb kind 6 then ranged (isSpan a) (Pass (record { 0 = a }))  -- "6 | microseconds pass | 0..65,535"
     else if eqb kind 7 then ranged (isPosition a && isByte b) (Cell (record { 0 = a }) b)  -- "7 | data cell | position in track 0..65,535 | byte"
-    else ranged (isSlot a && isCondition b) (Condition a b)  -- "8 | condition in a slot | slot 1..7 | 1 write fault, 2 seek error, 3 medium changed"
+    else ranged (slotB a && isCondition b) (Condition a b)  -- "8 | condition in a slot | slot 1..7 | 1 write fault, 2 seek error, 3 medium changed"
 
 -- "Refusals 19 to 25 .. are tried in that order": 20 before 21
 unfoldable pub decodeOf : ℕ → ℕ → ℕ → Decoded

@@ -3,14 +3,15 @@ use Prim.Native.Nat.{ℕ}
 use mathlib.Core.Bool.{Bool, _&&_, not}
 use lib.Dec.{leb, eqb}
 use Rattle.counts.specs.Tests.{within}
+use Rattle.lines.specs.Lines.{lastSelect, lastHeadLines}
 
 -- "0..7 (0 = none)"
 abbrev pub isSelectCode : ℕ → Bool
-isSelectCode a = leb a 7
+isSelectCode a = leb a lastSelect
 
 -- "head lines | 0..15"
-abbrev pub isHead : ℕ → Bool
-isHead a = leb a 15
+abbrev pub isHeadLines : ℕ → Bool
+isHeadLines a = leb a lastHeadLines
 
 -- "0/1"
 abbrev pub isLevel : ℕ → Bool
@@ -27,10 +28,6 @@ isPosition a = leb a 65_535
 -- "byte"
 abbrev pub isByte : ℕ → Bool
 isByte b = leb b 255
-
--- "slot 1..7"
-abbrev pub isSlot : ℕ → Bool
-isSlot a = within 1 7 a
 
 -- "1 write fault, 2 seek error, 3 medium changed"
 abbrev pub isCondition : ℕ → Bool

@@ -2,15 +2,24 @@
 use crate::Decoded;
 use crate::Event;
 use counts::Head;
+use counts::LAST_SLOT;
 use counts::Micros;
 use counts::Position;
+use lines::Lines;
 ghost use mathlib.Core.Path.{_≡_};
 ghost use mathlib.Core.Bool.{_&&_};
-ghost use Rattle.event.specs.Operands.{isSelectCode, isHead, isLevel, isSpan, isPosition, isByte, isSlot, isCondition, strayB};
+ghost use Rattle.counts.specs.Slots.{slotB};
+ghost use Rattle.event.specs.Operands.{isSelectCode, isHeadLines, isLevel, isSpan, isPosition, isByte, isCondition, strayB};
 ghost use Rattle.event.specs.Decode.{ranged, levelLine, kindRow, decodeOf};
 
-// The highest of the conditions.
-const CONDITIONS: u32 = 3;
+// The highest select code, head lines, slot and condition.
+const SELECT: u32 = Lines::LAST_SELECT as u32;
+
+const HEADS: u32 = Lines::LAST_HEAD as u32;
+
+const SLOT: u32 = LAST_SLOT as u32;
+
+const CONDITION: u32 = 3;
 
 // Kinds up to 6 have no second operand.
 fn stray(kind: u32, b: u32) -> bool
@@ -22,16 +31,16 @@ fn stray(kind: u32, b: u32) -> bool
 fn select(a: u32) -> Decoded
     ensures { λ r. ⌜ r ≡ ranged (isSelectCode a) (Event.Select a) ⌝ }
 {
-    if a > 7 {
+    if a > SELECT {
         return Decoded::Range;
     }
     Decoded::Is(Event::Select(a as u8))
 }
 
 fn heads(a: u32) -> Decoded
-    ensures { λ r. ⌜ r ≡ ranged (isHead a) (Event.Heads (record { 0 = a })) ⌝ }
+    ensures { λ r. ⌜ r ≡ ranged (isHeadLines a) (Event.Heads (record { 0 = a })) ⌝ }
 {
-    if a > 15 {
+    if a > HEADS {
         return Decoded::Range;
     }
     Decoded::Is(Event::Heads(Head(a as u8)))
@@ -44,13 +53,13 @@ fn line(kind: u32, a: u32) -> Decoded
     if a > 1 {
         return Decoded::Range;
     }
-    let level = a as u8;
     if kind == 2 {
-        return Decoded::Is(Event::WriteGate(level));
+        return Decoded::Is(Event::WriteGate(a as u16));
     }
     if kind == 3 {
-        return Decoded::Is(Event::ReadGate(level));
+        return Decoded::Is(Event::ReadGate(a as u16));
     }
+    let level = a as u8;
     if kind == 4 {
         return Decoded::Is(Event::Data(level));
     }
@@ -79,18 +88,18 @@ fn cell(a: u32, b: u32) -> Decoded
 }
 
 fn condition(a: u32, b: u32) -> Decoded
-    ensures { λ r. ⌜ r ≡ ranged (isSlot a && isCondition b) (Event.Condition a b) ⌝ }
+    ensures { λ r. ⌜ r ≡ ranged (slotB a && isCondition b) (Event.Condition a b) ⌝ }
 {
     if a < 1 {
         return Decoded::Range;
     }
-    if a > 7 {
+    if a > SLOT {
         return Decoded::Range;
     }
     if b < 1 {
         return Decoded::Range;
     }
-    if b > CONDITIONS {
+    if b > CONDITION {
         return Decoded::Range;
     }
     Decoded::Is(Event::Condition(a as u8, b as u8))

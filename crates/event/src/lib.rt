@@ -11,8 +11,8 @@ pub enum Event {
     // 0 selects none
     Select(u8),
     Heads(Head),
-    WriteGate(u8),
-    ReadGate(u8),
+    WriteGate(u16),
+    ReadGate(u16),
     Data(u8),
     Request(u8),
     Pass(Micros),

@@ -2,11 +2,11 @@
 use Prim.Native.Nat.{ℕ, _+_, _/_, _^_}
 use mathlib.Core.Bool.{Bool, false, _&&_}
 use mathlib.Core.List.{List, [], _∷_}
-use lib.Dec.{ltb, leb, eqb}
+use lib.Dec.{leb, eqb}
 use Rattle.counts.specs.Choice.{if_then_else_}
 use Rattle.counts.specs.Tests.{allOf}
 use Rattle.handshake.specs.declared.Transfer.{Transfer}
-use Rattle.handshake.specs.Transfer.{taking, responding, wordBits, patience}
+use Rattle.handshake.specs.Transfer.{taking, responding, wordBits, largest, patience}
 
 -- "a drive with no open transfer has acknowledge up or any collected bit, response or waiting time other than 0"
 abbrev pub idleTests : Transfer → List Bool
@@ -43,7 +43,7 @@ respondingTests request t =
     leb request (t .count) ∷
     leb (t .count) (16 + request) ∷
     eqb (t .bits) 0 ∷
-    ltb (t .response) 131_072 ∷ []
+    leb (t .response) largest ∷ []
 
 abbrev pub respondingB : ℕ → Transfer → Bool
 respondingB request t = allOf (respondingTests request t)

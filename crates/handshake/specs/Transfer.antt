@@ -16,6 +16,10 @@ responding = 2
 abbrev pub wordBits : ℕ
 wordBits = 17
 
+-- the largest number of seventeen bits
+abbrev pub largest : ℕ
+largest = 131_071
+
 -- "10,000 µs"
 abbrev pub patience : ℕ
 patience = 10_000

@@ -5,14 +5,14 @@ ghost use Rattle.handshake.specs.Transfer.{noTransfer, respondingWith, o
 ghost use Rattle.handshake.specs.Edges.{takenBit, nextBit, takenOf, putOutOf, riseOf, loweredOf, fallOf, lateB, waitOf};
 ghost use Rattle.handshake.specs.SoundTransfer.{idleB, noneB, takingB, respondingB, leftB};
 
-// way: 0 none, 1 taking bits, 2 responding. count: the bits taken, or put out. acknowledge: the line's level.
+// count: the bits taken, or put out. way: 0 none, 1 taking bits, 2 responding. acknowledge: the line's level.
 #[repr(C)]
 pub struct Transfer {
     pub waiting: Micros,
     pub bits: u32,
     pub response: u32,
+    pub count: u16,
     pub way: u8,
-    pub count: u8,
     pub acknowledge: u8,
 }
 
@@ -34,7 +34,10 @@ impl Transfer {
     pub const RESPONDING: u8 = 2;
 
     // Sixteen bits and their parity.
-    pub const BITS: u8 = 17;
+    pub const BITS: u16 = 17;
+
+    // The largest number of so many bits.
+    pub const LARGEST: u32 = 131_071;
 
     // The longest time between one request edge and the next, in microseconds.
     pub const PATIENCE: u32 = 10_000;
@@ -74,7 +77,7 @@ pub fn is_open(t: Transfer) -> bool
 }
 
 // One more, up to seventeen.
-fn counted(count: u8) -> u8
+fn counted(count: u16) -> u16
     ensures { λ r. ⌜ r ≡ nextBit count ⌝ }
 {
     if count < Transfer::BITS {
@@ -185,7 +188,7 @@ pub fn wait(t: Transfer, us: Micros) -> Held
 }
 
 // The bit that is out when count bits of the response have been put out, the highest first.
-fn bit_out(response: u32, count: u8) -> u8
+fn bit_out(response: u32, count: u16) -> u8
     ensures { λ r. ⌜ r ≡ bitOut response count ⌝ }
 {
     if count > Transfer::BITS {
@@ -229,7 +232,7 @@ fn taking(t: Transfer, request: u8) -> bool
     (t.waiting.0 <= Transfer::PATIENCE)
         & (t.acknowledge == request)
         & (1 <= t.count)
-        & (t.count as u16 <= 16 + request as u16)
+        & (t.count <= 16 + request as u16)
         & (t.bits >> t.count as u32 == 0)
         & (t.response == 0)
 }
@@ -239,10 +242,10 @@ fn responding(t: Transfer, request: u8) -> bool
 {
     (t.waiting.0 <= Transfer::PATIENCE)
         & (t.acknowledge == request)
-        & (request <= t.count)
-        & (t.count as u16 <= 16 + request as u16)
+        & (request as u16 <= t.count)
+        & (t.count <= 16 + request as u16)
         & (t.bits == 0)
-        & (t.response < 131_072)
+        & (t.response <= Transfer::LARGEST)
 }
 
 // Whether the handshake could have left this transfer at that request level.

@@ -4,12 +4,12 @@ use mathlib.Core.Bool.{Bool, true, false, not}
 use mathlib.Core.List.{List, [], _∷_}
 use Prim.Native.Nat.{ℕ, zero, suc, _+_, _-_, _≤_, _<_}
 use native.Mathlib.Omega.{arith}
-use borrow.Author.Tests.{eqb-true, eq-eqb, le-ltb, le-leb, not-false}
+use borrow.Author.Tests.{eqb-true, eq-eqb, le-leb, not-false}
 use lib.Dec.{eqb}
 use lib.ListN.{length, getD, set, length-set}
 use lib.Seq.{getD-set-same, getD-set-other, set-getD}
 use Rattle.counts.specs.Choice.{if_then_else_}
-use Rattle.counts.specs.Slots.{mapWith}
+use Rattle.counts.specs.Slots.{slotB, mapWith}
 use Rattle.counts.proofs.Choice.{by-test}
 use Rattle.counts.proofs.Slots.{map-at, all-at, all-from, no-shorter}
 use Rattle.counts.proofs.Tests.{join, within-both}
@@ -23,10 +23,10 @@ use Rattle.lines.specs.declared.Lines.{Lines}
 use Rattle.lines.specs.Lines.{linesB}
 use Rattle.drive_cable.specs.SoundDrive as unit
 use Rattle.chain_record.specs.declared.Chain.{Chain}
-use Rattle.chain_record.specs.Record.{slotB, slotPack, slotState}
+use Rattle.chain_record.specs.Record.{slotPack, slotState}
 use Rattle.pack_read.specs.Packs.{fittedB}
 use Rattle.chain_apply.specs.Apply.{putOf}
-use Rattle.chain_sound.specs.SoundChain.{driveB, chainSoundB}
+use Rattle.chain_sound.specs.SoundChain.{fileStart, driveB, chainSoundB}
 use Rattle.chain_sound.proofs.SoundSlots.{sound, InFile, placed-at, blank-drive, slot-of, pack-there, state-there}
 
 -- a state put into a slot, looked at from a slot
@@ -89,7 +89,7 @@ module _ (c : Chain) (h : chainSoundB c ≡ true) where
     in-file : InFile k (c .length .0) p
     in-file =
         let w = within-both 1 7 k is-slot in
-        let q = placed-at (c .packs) 1 0 (c .length .0) (k - 1) (sound c h .places) listed in
+        let q = placed-at (c .packs) 1 fileStart (c .length) (k - 1) (sound c h .places) listed in
         let i : InFile k (c .length .0) (getD (c .packs) (k - 1) noPack) = record { own = omega arith; valid = q .valid; within = q .within } in
         rw (pack-there k (c .packs) is-slot) i
 
@@ -122,7 +122,7 @@ module _ (c : Chain) (h : chainSoundB c ≡ true) where
   module _ (i : ℕ) (f : getD (c .packs) i noPack .fitted ≡ 1) where
     slot-there : slotB (i + 1) ≡ true
     slot-there =
-        let q = placed-at (c .packs) 1 0 (c .length .0) i (sound c h .places) f in
+        let q = placed-at (c .packs) 1 fileStart (c .length) i (sound c h .places) f in
         let r = ranges _ (q .valid) in
         join _ _ (le-leb 1 (i + 1) (omega arith)) (le-leb (i + 1) 7 (omega arith))
 
@@ -156,4 +156,4 @@ module _ (c : Chain) (h : chainSoundB c ≡ true) where
         → chainSoundB (record { packs = c .packs; states = states; lines = m; length = c .length }) ≡ true
     unfolding chainSoundB
     slots-sound l n g =
-        rw (l, le-ltb _ _ (sound c h .long), sound c h .places) (all-from (driveB m) noPack blankState (c .packs) states n (at-any g))
+        rw (l, sound c h .places) (all-from (driveB m) noPack blankState (c .packs) states n (at-any g))

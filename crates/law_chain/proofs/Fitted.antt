@@ -9,6 +9,7 @@ use borrow.Author.Tests.{eqb-true, eqb-false, eq-eqb, ne-eqb, ltb-false, le-ltb}
 use lib.Dec.{ltb, eqb}
 use lib.ListN.{length, take, set, replicate, length-set, length-append}
 use Rattle.pack_trailer.specs.Form.{trailerLength}
+use Rattle.counts.specs.declared.Place.{Place}
 use Rattle.counts.specs.Choice.{if_then_else_}
 use Rattle.counts.specs.Bytes.{Bytes}
 use Rattle.counts.specs.Slots.{mapWith, allWith}
@@ -36,7 +37,7 @@ use Rattle.drive_cable.specs.SoundDrive as unit
 use Rattle.law_drive.proofs.Keeps.{fresh-sound}
 use Rattle.chain_record.specs.declared.Chain.{Chain}
 use Rattle.chain_fit.specs.Fresh.{lowLines, freshSlot, blankStates, endOf, freshFit}
-use Rattle.chain_sound.specs.SoundChain.{placedOf, placesB, driveB, chainSoundB}
+use Rattle.chain_sound.specs.SoundChain.{placedOf, fileStart, placesB, driveB, chainSoundB}
 use Rattle.chain_sound.proofs.SoundSlots.{placed-at}
 
 -- the slots from a base on
@@ -74,47 +75,52 @@ front x xs base place p found (v, m, b, s) e =
     (behind xs base (place + length (packBytes x)) p found s (omega arith))
     ∙ ap (λ (k : ℕ). set (p ∷ slotsFrom (suc base) xs (place + length (packBytes x)) found) k (fittedPack (record { 0 = place }) (x .profile))) none
 
-empty-goes-on : (packs : List Pack) (slot at len : ℕ) → placesB (noPack ∷ packs) slot at len ≡ placesB packs (slot + 1) at len
+abbrev at-place : ℕ → Place
+at-place n = record { 0 = n }
+
+empty-goes-on : (packs : List Pack) (slot : ℕ) (at len : Place) → placesB (noPack ∷ packs) slot at len ≡ placesB packs (slot + 1) at len
 unfolding placedOf
 empty-goes-on packs slot at len = refl
 
-pack-goes-on : (p : Profile) (packs : List Pack) (slot at len end : ℕ) → p .slot ≡ slot → validB p ≡ true → at + mediumOf (p .shape) + trailerLength ≡ end
-    → placesB (fittedPack (record { 0 = at }) p ∷ packs) slot at len ≡ placesB packs (slot + 1) end len
+pack-goes-on : (p : Profile) (packs : List Pack) (slot at len end : ℕ) → p .slot ≡ slot → validB p ≡ true → at + mediumOf (p .shape) + trailerLength ≡ end → end ≤ longestFile
+    → placesB (fittedPack (at-place at) p ∷ packs) slot (at-place at) (at-place len) ≡ placesB packs (slot + 1) (at-place end) (at-place len)
 unfolding placedOf
-pack-goes-on p packs slot at len end own v e = simp (eq-eqb (p .slot) slot own, eq-eqb at at refl, v, e)
+pack-goes-on p packs slot at len end own v e short = simp (eq-eqb (p .slot) slot own, eq-eqb at at refl, v, e, le-ltb longestFile end short)
 
 -- the packs stand one behind the other, each in its own slot
 abbrev Placed : ℕ → ℕ → List Contents → ℕ → Type 0
-Placed n base xs place = placesB (slotsFrom base xs place (replicate n noPack)) base place (place + length (fileOf xs)) ≡ true
+Placed n base xs place = placesB (slotsFrom base xs place (replicate n noPack)) base (at-place place) (at-place (place + length (fileOf xs))) ≡ true
 
-module _ (n base : ℕ) (x : Contents) (xs : List Contents) (place : ℕ) (s : Standing (x ∷ xs) 8) (h : base ≤ x .profile .slot) where
+module _ (n base : ℕ) (x : Contents) (xs : List Contents) (place : ℕ) (s : Standing (x ∷ xs) 8) (h : base ≤ x .profile .slot)
+    (short : place + length (fileOf (x ∷ xs)) ≤ longestFile) where
   here : x .profile .slot ≡ base → Placed n (suc base) xs (place + length (packBytes x)) → Placed (suc n) base (x ∷ xs) place
   here own r =
       let end = place + length (packBytes x) in
       let long : place + length (fileOf (x ∷ xs)) ≡ end + length (fileOf xs) = omega (arith, length-append (packBytes x) (fileOf xs)) in
       rw (front x xs base place noPack (replicate n noPack) s own, long)
       (pack-goes-on (x .profile) (slotsFrom (suc base) xs end (replicate n noPack)) base place (end + length (fileOf xs)) end own (s .0)
-      (omega (arith, pack-length x, s .1)) ∙ rw (add-one base) r)
+      (omega (arith, pack-length x, s .1)) (omega (arith, long)) ∙ rw (add-one base) r)
 
   later : base < x .profile .slot → Placed n (suc base) (x ∷ xs) place → Placed (suc n) base (x ∷ xs) place
   later other r =
       rw (behind (x ∷ xs) base place noPack (replicate n noPack) s other)
-      (empty-goes-on (slotsFrom (suc base) (x ∷ xs) place (replicate n noPack)) base place (place + length (fileOf (x ∷ xs))) ∙ rw (add-one base) r)
+      (empty-goes-on (slotsFrom (suc base) (x ∷ xs) place (replicate n noPack)) base (at-place place) (at-place (place + length (fileOf (x ∷ xs)))) ∙ rw (add-one base) r)
 
   next : (x .profile .slot ≡ base → Placed n (suc base) xs (place + length (packBytes x)))
       → (base < x .profile .slot → Placed n (suc base) (x ∷ xs) place) → (t : Bool) → eqb (x .profile .slot) base ≡ t → Placed (suc n) base (x ∷ xs) place
   next a b true q = let own = eqb-true (x .profile .slot) base q in here own (a own)
   next a b false q = let other : base < x .profile .slot = omega (arith, eqb-false (x .profile .slot) base q) in later other (b other)
 
-placed : (n base : ℕ) (xs : List Contents) (place : ℕ) → base + n ≡ 8 → Standing xs 8 → base ≤ firstSlot xs 8 → Placed n base xs place
-placed zero base [] place e s h = eq-eqb place (place + 0) (omega arith)
-placed zero base (x ∷ xs) place e (v, m, b, s) h = absurd (omega (arith, first-most xs s))
-placed (suc n) base [] place e s h =
-    empty-goes-on (replicate n noPack) base place (place + 0) ∙ rw (add-one base) (placed n (suc base) [] place (omega arith) tt (omega arith))
-placed (suc n) base (x ∷ xs) place e (v, m, b, s) h =
-    next n base x xs place (v, m, b, s) h
-    (λ own. placed n (suc base) xs (place + length (packBytes x)) (omega arith) s (omega arith))
-    (λ other. placed n (suc base) (x ∷ xs) place (omega arith) (v, m, b, s) other)
+placed : (n base : ℕ) (xs : List Contents) (place : ℕ) → base + n ≡ 8 → Standing xs 8 → base ≤ firstSlot xs 8 → place + length (fileOf xs) ≤ longestFile → Placed n base xs place
+placed zero base [] place e s h short = eq-eqb place (place + 0) (omega arith)
+placed zero base (x ∷ xs) place e (v, m, b, s) h short = absurd (omega (arith, first-most xs s))
+placed (suc n) base [] place e s h short =
+    empty-goes-on (replicate n noPack) base (at-place place) (at-place (place + 0))
+    ∙ rw (add-one base) (placed n (suc base) [] place (omega arith) tt (omega arith) short)
+placed (suc n) base (x ∷ xs) place e (v, m, b, s) h short =
+    next n base x xs place (v, m, b, s) h short
+    (λ own. placed n (suc base) xs (place + length (packBytes x)) (omega arith) s (omega arith) (omega (arith, length-append (packBytes x) (fileOf xs))))
+    (λ other. placed n (suc base) (x ∷ xs) place (omega arith) (v, m, b, s) other short)
     (eqb (x .profile .slot) base) refl
 
 from-one : (xs : List Contents) (place : ℕ) (found : List Pack) → slotsFrom 1 xs place found ≡ slotsOf xs place found
@@ -142,7 +148,7 @@ fresh-drive p s h = by (eqb (p .fitted) 1) refl
     by false q = refl
 
 -- so in every slot
-drives : (packs : List Pack) (states : List State) (slot at len : ℕ) → placesB packs slot at len ≡ true → 1 ≤ slot → length packs ≤ length states
+drives : (packs : List Pack) (states : List State) (slot : ℕ) (at len : Place) → placesB packs slot at len ≡ true → 1 ≤ slot → length packs ≤ length states
     → allWith (driveB lowLines) packs (mapWith freshSlot packs states) ≡ true
 drives [] states slot at len h one long = refl
 drives (p ∷ packs) [] slot at len h one long = absurd (omega arith)
@@ -150,15 +156,15 @@ drives (p ∷ packs) (s ∷ states) slot at len h one long =
     join _ _ (fresh-drive p s (λ f. let g = placed-at (p ∷ packs) slot at len 0 h f in (g .valid, omega arith)))
     (drives packs states (slot + 1) (placedOf p slot at .end) len (guarded (placedOf p slot at .ok) _ h .1) (omega arith) (omega arith))
 
-made-places : (l : List ℕ) (slots : List Pack) → Made l 8 noPacks slots → placesB slots 1 0 (length l) ≡ true
-made-places l slots m =
+made-places : (l : List ℕ) (slots : List Pack) → Made l 8 noPacks slots → length l ≤ longestFile → placesB slots 1 fileStart (at-place (length l)) ≡ true
+made-places l slots m short =
     let long : length l ≡ 0 + length (fileOf (m .contents)) = omega (arith, ap length (m .bytes)) in
-    rw (m .table, long, ← from-one (m .contents) 0 noPacks) (placed 7 1 (m .contents) 0 refl (m .standing) (first-least (m .contents) (m .standing)))
+    rw (m .table, long, ← from-one (m .contents) 0 noPacks) (placed 7 1 (m .contents) 0 refl (m .standing) (first-least (m .contents) (m .standing)) (omega (arith, long)))
 
-made-drives : (l : List ℕ) (slots : List Pack) → Made l 8 noPacks slots → allWith (driveB lowLines) slots (mapWith freshSlot slots blankStates) ≡ true
-made-drives l slots m =
+made-drives : (l : List ℕ) (slots : List Pack) → Made l 8 noPacks slots → length l ≤ longestFile → allWith (driveB lowLines) slots (mapWith freshSlot slots blankStates) ≡ true
+made-drives l slots m short =
     let seven : length slots ≡ 7 = ap length (m .table) ∙ slots-long (m .contents) 0 noPacks in
-    drives slots blankStates 1 0 (length l) (made-places l slots m) (omega arith) (omega arith)
+    drives slots blankStates 1 fileStart (at-place (length l)) (made-places l slots m short) (omega arith) (omega arith)
 
 -- the chain of a file that reads whole: sound, and as long as the file
 module _ (file : List ℕ) (small : Bytes file) (w : readAll file .answer ≡ Whole) where
@@ -180,7 +186,7 @@ module _ (file : List ℕ) (small : Bytes file) (w : readAll file .answer ≡ Wh
 
   pub whole-sound : chainSoundB (freshFit file .chain) ≡ true
   unfolding freshFit chainSoundB endOf
-  whole-sound = simp (w, le-ltb longestFile (length file) short, made-places file (readAll file .slots) from, made-drives file (readAll file .slots) from)
+  whole-sound = simp (w, le-ltb longestFile (length file) short, made-places file (readAll file .slots) from short, made-drives file (readAll file .slots) from short)
 
 -- a refused file gives no pack
 abbrev Empty : Packs → Type 0

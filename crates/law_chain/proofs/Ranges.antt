@@ -10,7 +10,8 @@ use Rattle.event.specs.declared.Event.{Event}
 use Rattle.event.specs.declared.Event.the-variants.{Select, Heads, WriteGate, ReadGate, Data, Request, Pass, Cell, Condition}
 use Rattle.event.specs.declared.Decoded.{Decoded}
 use Rattle.event.specs.declared.Decoded.the-variants.{Is, Unknown, Range}
-use Rattle.event.specs.Operands.{isPosition, isByte, isSlot, isCondition, strayB}
+use Rattle.counts.specs.Slots.{slotB}
+use Rattle.event.specs.Operands.{isPosition, isByte, isCondition, strayB}
 use Rattle.event.specs.Decode.{ranged, levelLine, kindRow, decodeOf}
 use Rattle.lines.specs.declared.Lines.{Lines}
 use Rattle.lines.specs.Lines.{lineTests, linesB}
@@ -51,7 +52,7 @@ row kind a b =
     (λ t. by-test Within (eqb kind 7) _ _
     (λ t. good _ _ (λ h. let e = both (isPosition a) (isByte b) h in (leb-true a 65_535 (e .0), leb-true b 255 (e .1))))
     (λ t. good _ _ (λ h.
-    let e = both (isSlot a) (isCondition b) h in
+    let e = both (slotB a) (isCondition b) h in
     let s = within-both 1 7 a (e .0) in
     let w = within-both 1 3 b (e .1) in
     (s .0, s .1, w .0, w .1)))))))

@@ -8,7 +8,7 @@ use borrow.Author.Tests.{leb-true, ltb-true, eqb-true, le-leb, eq-eqb}
 use Rattle.counts.specs.Choice.{if_then_else_}
 use Rattle.counts.proofs.Tests.{both, join, each, all}
 use Rattle.handshake.specs.declared.Transfer.{Transfer}
-use Rattle.handshake.specs.Transfer.{taking, responding, wordBits, patience}
+use Rattle.handshake.specs.Transfer.{taking, responding, wordBits, largest, patience}
 use Rattle.handshake.specs.SoundTransfer.{idleTests, idleB, noneB, takingTests, takingB, respondingTests, respondingB, leftB}
 
 -- no transfer open
@@ -65,7 +65,7 @@ pub record Giving (request : ℕ) (t : Transfer) : Type 0 where
   pub some : request ≤ t .count
   pub most : t .count ≤ 16 + request
   pub bits : t .bits ≡ 0
-  pub response : t .response < 131_072
+  pub response : t .response ≤ largest
 
 pub gives : (request : ℕ) (t : Transfer) → respondingB request t ≡ true → Giving request t
 gives request t h =
@@ -76,7 +76,7 @@ gives request t h =
       some = leb-true _ _ (e .1 .1 .0);
       most = leb-true _ _ (e .1 .1 .1 .0);
       bits = eqb-true _ _ (e .1 .1 .1 .1 .0);
-      response = ltb-true _ _ (e .1 .1 .1 .1 .1 .0);
+      response = leb-true _ _ (e .1 .1 .1 .1 .1 .0);
     }
 
 pub from-gives : (request : ℕ) (t : Transfer) → Giving request t → respondingB request t ≡ true

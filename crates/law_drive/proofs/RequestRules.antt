@@ -54,7 +54,7 @@ after-left (Word r) h =
       some = omega arith;
       most = omega arith;
       bits = refl;
-      response = h r refl;
+      response = omega (arith, h r refl);
     })
 
 module _ (p : Profile) (v : validB p ≡ true) (l : Lines) (s : State) where

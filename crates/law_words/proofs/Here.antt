@@ -5,7 +5,7 @@ use mathlib.Core.Bool.{Bool, true, false}
 use lib.Dec.{eqb}
 use lib.ListN.{length, getD}
 use borrow.Author.Tests.{eqb-true, not-false}
-use Rattle.counts.specs.Slots.{mapWith}
+use Rattle.counts.specs.Slots.{slotB, mapWith}
 use Rattle.counts.proofs.Slots.{map-still}
 use Rattle.counts.proofs.Tests.{both}
 use Rattle.handshake.specs.declared.Transfer.{Transfer}
@@ -18,7 +18,7 @@ use Rattle.lines.specs.declared.Lines.{Lines}
 use Rattle.law_drive.proofs.TimeRules.{zero-stays}
 use Rattle.law_drive.proofs.OpenTransfers.{Idle, idle, left-none}
 use Rattle.chain_record.specs.declared.Chain.{Chain}
-use Rattle.chain_record.specs.Record.{slotB, slotPack, lookOf}
+use Rattle.chain_record.specs.Record.{slotPack, lookOf}
 use Rattle.pack_read.specs.Packs.{fittedB}
 use Rattle.chain_apply.specs.Apply.{passSlot}
 use Rattle.chain_sound.specs.SoundChain.{driveB, chainSoundB}

@@ -4,6 +4,7 @@ use mathlib.Core.Bool.{Bool}
 use mathlib.Core.List.{List, [], _∷_}
 use lib.Dec.{leb}
 use Rattle.counts.specs.Tests.{allOf}
+use Rattle.counts.specs.Slots.{slots}
 use Rattle.counts.specs.declared.Head.{Head}
 use Rattle.lines.specs.declared.Lines.{Lines}
 
@@ -25,11 +26,19 @@ with-command x l = record { select = l .select; heads = l .heads; writegate = l 
 abbrev pub with-request : ℕ → Lines → Lines
 with-request x l = record { select = l .select; heads = l .heads; writegate = l .writegate; readgate = l .readgate; command = l .command; request = x }
 
+-- "0..7 (0 = none)"
+abbrev pub lastSelect : ℕ
+lastSelect = slots
+
+-- "head lines | 0..15"
+abbrev pub lastHeadLines : ℕ
+lastHeadLines = 15
+
 -- "select code ≤ 7", the head lines 0..15 and the levels 0/1 that the events give
 abbrev pub lineTests : Lines → List Bool
 lineTests l =
-    leb (l .select) 7 ∷
-    leb (l .heads .0) 15 ∷
+    leb (l .select) lastSelect ∷
+    leb (l .heads .0) lastHeadLines ∷
     leb (l .writegate) 1 ∷
     leb (l .readgate) 1 ∷
     leb (l .command) 1 ∷

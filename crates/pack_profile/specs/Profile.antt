@@ -11,7 +11,7 @@ mediumOf s = s .cylinders .0 * s .heads .0 * s .track .0
 -- the medium's bytes, whatever the fields say
 pub record Medium (s : Shape) (r : ℕ) : Type 0 where
   pub is : r ≡ mediumOf s
-  pub most : r < 1_099_511_627_776
+  pub most : r < 281_474_976_710_656
 
 -- what stands where no drive is
 abbrev pub blankProfile : Profile

@@ -1,4 +1,5 @@
 // What the bits of the general word say.
+use crate::Times;
 ghost use mathlib.Core.Path.{_≡_};
 ghost use Rattle.pack_profile.specs.General.{offsetOption, motorOption, removable as removableB, soft as softB, generalOk};
 
@@ -34,6 +35,6 @@ pub(crate) fn general_ok(w: u16, switch: u32) -> bool
         & (w / 4096 % 2 == 0)
         & (w / 1024 % 2 + w / 512 % 2 + w / 256 % 2 == 1)
         & (w / 128 % 2 + w / 64 % 2 == 1)
-        & ((w / 16 % 2 == 1) == (15 < switch))
+        & ((w / 16 % 2 == 1) == (Times::AT_ONCE < switch))
         & (w / 4 % 2 + w / 2 % 2 + w / 1 % 2 == 1)
 }

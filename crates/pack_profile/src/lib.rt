@@ -3,9 +3,11 @@ pub mod general;
 pub mod valid;
 
 use counts::Cylinder;
-use counts::Head;
+use counts::Heads;
 use counts::Micros;
+use counts::PerCylinder;
 use counts::Position;
+use counts::SectorSize;
 ghost use mathlib.Core.Path.{_≡_};
 ghost use Prim.Native.Nat.{_*_, _<_};
 ghost use Rattle.pack_profile.specs.Profile.{blankProfile, Medium};
@@ -13,15 +15,15 @@ ghost use Rattle.pack_profile.specs.Profile.{blankProfile, Medium};
 #[repr(C)]
 pub struct Shape {
     pub cylinders: Cylinder,
-    pub heads: Head,
+    pub heads: Heads,
     pub track: Position,
-    pub sector: Position,
+    pub sector: SectorSize,
 }
 
 #[repr(C)]
 pub struct Times {
     pub settle: Micros,
-    pub step: Micros,
+    pub step: PerCylinder,
     pub switch: Micros,
     pub recalibrate: Micros,
     pub start: Micros,
@@ -29,6 +31,7 @@ pub struct Times {
     pub offset: Micros,
 }
 
+// protected, 0 or 1, has two bytes so that no byte is padding.
 #[repr(C)]
 pub struct Profile {
     pub slot: u8,
@@ -36,17 +39,40 @@ pub struct Profile {
     pub general: u16,
     pub gap: u8,
     pub sync: u8,
-    pub protected: u8,
+    pub protected: u16,
     pub shape: Shape,
     pub times: Times,
 }
 
-impl Profile {
+impl Shape {
+    pub const MOST_CYLINDERS: u16 = 4096;
+
+    pub const MOST_HEADS: u16 = 16;
+
+    pub const SHORTEST_TRACK: u16 = 4095;
+
+    pub const LONGEST_TRACK: u16 = 40_960;
+
     // The sector sizes of a hard sectored drive.
     pub const SMALLEST_SECTOR: u16 = 162;
 
     pub const LARGEST_SECTOR: u16 = 4095;
+}
 
+impl Times {
+    // The most that settling, a head switch and an offset take.
+    pub const SHORT: u32 = 60_000;
+
+    // The most that recalibrating, starting and diagnostics take, and so the longest busy time.
+    pub const LONG: u32 = 30_000_000;
+
+    pub const LARGEST_STEP: u32 = 1000;
+
+    // A head switch that takes no longer is not waited for.
+    pub const AT_ONCE: u32 = 15;
+}
+
+impl Profile {
     // What stands where no drive is: all zeros.
     pub fn blank() -> Profile
         ensures { λ r. ⌜ r ≡ blankProfile ⌝ }
@@ -54,13 +80,13 @@ impl Profile {
         let none = Micros(0);
         let shape = Shape {
             cylinders: Cylinder(0),
-            heads: Head(0),
+            heads: Heads(0),
             track: Position(0),
-            sector: Position(0),
+            sector: SectorSize(0),
         };
         let times = Times {
             settle: none,
-            step: none,
+            step: PerCylinder(0),
             switch: none,
             recalibrate: none,
             start: none,
@@ -80,10 +106,10 @@ impl Profile {
     }
 }
 
-fn product(cylinders: u16, heads: u8, track: u16) -> usize
-    ensures { λ r. ⌜ (r ≡ cylinders * heads * track) × (r < 1_099_511_627_776) ⌝ }
+fn product(cylinders: u16, heads: u16, track: u16) -> usize
+    ensures { λ r. ⌜ (r ≡ cylinders * heads * track) × (r < 281_474_976_710_656) ⌝ }
 {
-    (cylinders as usize) * (heads as usize) * (track as usize)
+    cylinders as usize * heads as usize * track as usize
 }
 
 // The bytes of a pack's medium.

@@ -1,6 +1,9 @@
 // Which fields may stand.
 use crate::Profile;
+use crate::Shape;
+use crate::Times;
 use crate::general;
+use counts::LAST_SLOT;
 ghost use mathlib.Core.Path.{_≡_};
 ghost use Rattle.pack_profile.specs.Valid.{hardSize, sectorOk, validB};
 
@@ -8,7 +11,7 @@ ghost use Rattle.pack_profile.specs.Valid.{hardSize, sectorOk, validB};
 pub fn hard_size(size: u16) -> bool
     ensures { λ r. ⌜ r ≡ hardSize size ⌝ }
 {
-    (Profile::SMALLEST_SECTOR <= size) & (size <= Profile::LARGEST_SECTOR)
+    (Shape::SMALLEST_SECTOR <= size) & (size <= Shape::LARGEST_SECTOR)
 }
 
 // Whether a sector size may stand.
@@ -25,18 +28,18 @@ pub fn sector_ok(soft: bool, size: u16) -> bool
 pub fn valid(p: Profile) -> bool
     ensures { λ r. ⌜ r ≡ validB p ⌝ }
 {
-    ((1 <= p.slot) & (p.slot <= 7))
+    ((1 <= p.slot) & (p.slot <= LAST_SLOT))
         & general::general_ok(p.general, p.times.switch.0)
-        & ((1 <= p.shape.cylinders.0) & (p.shape.cylinders.0 <= 4096))
-        & ((1 <= p.shape.heads.0) & (p.shape.heads.0 <= 16))
-        & ((4095 <= p.shape.track.0) & (p.shape.track.0 <= 40_960))
+        & ((1 <= p.shape.cylinders.0) & (p.shape.cylinders.0 <= Shape::MOST_CYLINDERS))
+        & ((1 <= p.shape.heads.0) & (p.shape.heads.0 <= Shape::MOST_HEADS))
+        & ((Shape::SHORTEST_TRACK <= p.shape.track.0) & (p.shape.track.0 <= Shape::LONGEST_TRACK))
         & sector_ok(general::soft(p.general), p.shape.sector.0)
         & (p.protected <= 1)
-        & (p.times.settle.0 <= 60_000)
-        & (p.times.step.0 <= 1000)
-        & (p.times.switch.0 <= 60_000)
-        & (p.times.recalibrate.0 <= 30_000_000)
-        & (p.times.start.0 <= 30_000_000)
-        & (p.times.diagnostic.0 <= 30_000_000)
-        & (p.times.offset.0 <= 60_000)
+        & (p.times.settle.0 <= Times::SHORT)
+        & (p.times.step.0 <= Times::LARGEST_STEP)
+        & (p.times.switch.0 <= Times::SHORT)
+        & (p.times.recalibrate.0 <= Times::LONG)
+        & (p.times.start.0 <= Times::LONG)
+        & (p.times.diagnostic.0 <= Times::LONG)
+        & (p.times.offset.0 <= Times::SHORT)
 }

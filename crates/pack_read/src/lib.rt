@@ -35,10 +35,10 @@ pub fn number(why: Refusal) -> u8
     }
 }
 
-// A slot's pack: where in the file its medium starts, and its fields. fitted is 0 or 1.
+// A slot's pack: where in the file its medium starts, and its fields. fitted, 0 or 1, has four bytes so that none is padding.
 #[repr(C)]
 pub struct Pack {
-    pub fitted: u8,
+    pub fitted: u32,
     pub place: Place,
     pub profile: Profile,
 }

@@ -2,6 +2,7 @@
 use crate::Pack;
 use crate::Refusal;
 use counts::Place;
+use counts::SLOTS;
 use pack_profile::Profile;
 ghost use mathlib.Core.Path.{_≡_};
 ghost use Prim.Native.Nat.{ℕ, _-_, _≤_, _<_};
@@ -38,7 +39,7 @@ pub fn place(a: Reading) -> u32
 // What reading found: each pack at its slot, or nothing where the file is refused.
 pub struct Packs {
     pub answer: Reading,
-    pub slots: [Pack; 7],
+    pub slots: [Pack; SLOTS],
 }
 
 // The last pack of a file: where it starts, with its fields; or why it is refused.
@@ -50,7 +51,7 @@ pub enum Last {
 // The pack that ends at n: d is its distance, good whether its fields may stand, medium what they say of its medium,
 // limit the slot of the pack behind it.
 fn verdict(n: u32, limit: u8, d: u32, form: u8, good: bool, medium: usize, p: Profile) -> Last
-    requires { ⌜ medium < 1_099_511_627_776 ⌝ }
+    requires { ⌜ medium < 281_474_976_710_656 ⌝ }
     ensures { λ r. ⌜ r ≡ verdictOf n limit d form good medium p ⌝ }
 {
     if (d as usize) < pack_trailer::LENGTH {
@@ -97,11 +98,11 @@ fn last_pack(file: &[u8], limit: u8) -> Last
     check(&file[n - pack_trailer::LENGTH..], n as u32, limit)
 }
 
-fn empty() -> [Pack; 7]
+fn empty() -> [Pack; SLOTS]
     ensures { λ r. ⌜ r ≡ noPacks ⌝ }
 {
     let none = Pack::none();
-    [none; 7]
+    [none; SLOTS]
 }
 
 fn refused(why: Refusal, end: u32) -> Packs
@@ -113,7 +114,7 @@ fn refused(why: Refusal, end: u32) -> Packs
     }
 }
 
-fn stored(found: [Pack; 7], place: Place, p: Profile) -> [Pack; 7]
+fn stored(found: [Pack; SLOTS], place: Place, p: Profile) -> [Pack; SLOTS]
     requires { ⌜ (1 ≤ p .slot) × (p .slot ≤ 7) ⌝ }
     ensures { λ r. ⌜ r ≡ set found (p .slot - 1) (fittedPack place p) ⌝ }
 {
@@ -128,7 +129,7 @@ fn stored(found: [Pack; 7], place: Place, p: Profile) -> [Pack; 7]
 }
 
 // The last pack is read, then what is left in front of it.
-fn read_back(file: &[u8], limit: u8, found: [Pack; 7]) -> Packs
+fn read_back(file: &[u8], limit: u8, found: [Pack; SLOTS]) -> Packs
     requires { ⌜ length (now file) ≤ 2_147_483_647 ⌝ }
     ensures { λ r. ⌜ ((k : ℕ) → length (now (file .entry)) < k → r ≡ readBack k (now (file .entry)) limit found) ⌝ }
 {

@@ -7,7 +7,7 @@ use native.Mathlib.Omega.{arith}
 use lib.ListN.{length, getD}
 use Rattle.pack_trailer.specs.Form.{trailerLength}
 use Rattle.counts.specs.Bytes.{one, four, Bytes}
-use Rattle.counts.proofs.Bytes.{two-back, four-back, listed, as-listed, first-of-two, last-byte, third-of-four, first-of-four, second-of-four}
+use Rattle.counts.proofs.Bytes.{one-back, two-back, four-back, listed, as-listed, only-byte, first-of-two, last-byte, third-of-four, first-of-four, second-of-four}
 use Rattle.pack_profile.specs.declared.Profile.{Profile}
 use Rattle.pack_trailer.specs.Fields.{profileOf, zerosB}
 use Rattle.pack_trailer.specs.TrailerBytes.{trailerOf}
@@ -20,6 +20,8 @@ unfolding profileOf
 read-laid p d v =
     let r = ranges p v in
     simp (
+      one-back (p .shape .heads .0) (omega arith),
+      one-back (p .protected) (omega arith),
       two-back (p .general) (omega arith),
       two-back (p .shape .cylinders .0) (omega arith),
       two-back (p .shape .track .0) (omega arith),
@@ -38,5 +40,5 @@ pub laid-read : (t : List ℕ) → Bytes t → length t ≡ trailerLength → ze
 unfolding profileOf
 laid-read t small n z form =
     let e = zeros t z in
-    simp (first-of-two t small, last-byte t small, first-of-four t small, second-of-four t small, third-of-four t small)
+    simp (only-byte t small, first-of-two t small, last-byte t small, first-of-four t small, second-of-four t small, third-of-four t small)
     (rw (e .at-1, e .at-15, e .at-38, form) at (sym (as-listed t ∙ ap (λ (k : ℕ). listed k (λ i. getD t i 0)) n)))

@@ -1,5 +1,5 @@
 -- The trailer's 44 bytes, in the order of their places.
-use Prim.Native.Nat.{ℕ}
+use Prim.Native.Nat.{ℕ, _%_}
 use mathlib.Core.List.{List, _++_}
 use Rattle.counts.specs.Bytes.{bytes1, bytes2, bytes4}
 use Rattle.pack_profile.specs.declared.Profile.{Profile}
@@ -10,9 +10,9 @@ use Rattle.pack_trailer.specs.Form.{formOne}
 abbrev pub firstBytes : Profile → List ℕ
 firstBytes p =
     bytes1 (p .slot) ++ bytes1 0 ++ bytes2 (p .general)
-    ++ bytes2 (p .shape .cylinders .0) ++ bytes1 (p .shape .heads .0) ++ bytes1 (p .vendor)
+    ++ bytes2 (p .shape .cylinders .0) ++ bytes1 (p .shape .heads .0 % 256) ++ bytes1 (p .vendor)
     ++ bytes2 (p .shape .track .0) ++ bytes2 (p .shape .sector .0)
-    ++ bytes1 (p .gap) ++ bytes1 (p .sync) ++ bytes1 (p .protected) ++ bytes1 0
+    ++ bytes1 (p .gap) ++ bytes1 (p .sync) ++ bytes1 (p .protected % 256) ++ bytes1 0
 
 -- places 16 to 37
 abbrev pub timeBytes : Times → List ℕ

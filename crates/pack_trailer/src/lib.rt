@@ -1,8 +1,10 @@
 // A pack's trailer: the profile of its drive, as 44 bytes and back.
 use counts::Cylinder;
-use counts::Head;
+use counts::Heads;
 use counts::Micros;
+use counts::PerCylinder;
 use counts::Position;
+use counts::SectorSize;
 use pack_profile::Profile;
 use pack_profile::Shape;
 use pack_profile::Times;
@@ -91,9 +93,9 @@ fn shape_of(t: &[u8]) -> Shape
 {
     Shape {
         cylinders: Cylinder(two(t, 4)),
-        heads: Head(byte(t, 6)),
+        heads: Heads(byte(t, 6) as u16),
         track: Position(two(t, 8)),
-        sector: Position(two(t, 10)),
+        sector: SectorSize(two(t, 10)),
     }
 }
 
@@ -102,7 +104,7 @@ fn times_of(t: &[u8]) -> Times
 {
     Times {
         settle: Micros(four(t, 16)),
-        step: Micros(two_wide(t, 20)),
+        step: PerCylinder(two_wide(t, 20)),
         switch: Micros(two_wide(t, 22)),
         recalibrate: Micros(four(t, 24)),
         start: Micros(four(t, 28)),
@@ -123,7 +125,7 @@ pub fn profile_of(t: &[u8]) -> Profile
         general: two(t, 2),
         gap: byte(t, 12),
         sync: byte(t, 13),
-        protected: byte(t, 14),
+        protected: byte(t, 14) as u16,
         shape,
         times,
     }
@@ -140,7 +142,7 @@ fn first_bytes(p: Profile) -> [u8; 16]
         (p.general % 256) as u8,
         (p.shape.cylinders.0 / 256 % 256) as u8,
         (p.shape.cylinders.0 % 256) as u8,
-        p.shape.heads.0,
+        (p.shape.heads.0 % 256) as u8,
         p.vendor,
         (p.shape.track.0 / 256 % 256) as u8,
         (p.shape.track.0 % 256) as u8,
@@ -148,7 +150,7 @@ fn first_bytes(p: Profile) -> [u8; 16]
         (p.shape.sector.0 % 256) as u8,
         p.gap,
         p.sync,
-        p.protected,
+        (p.protected % 256) as u8,
         0,
     ]
 }

@@ -1,8 +1,10 @@
 // The drives of each chain, slot by slot.
 use counts::Cylinder;
-use counts::Head;
+use counts::Heads;
 use counts::Micros;
+use counts::PerCylinder;
 use counts::Position;
+use counts::SectorSize;
 use pack_profile::Profile;
 use pack_profile::Shape;
 use pack_profile::Times;
@@ -24,12 +26,12 @@ pub fn is_fitted(which: u8, slot: u8) -> bool {
     }
 }
 
-fn shape(cylinders: u16, heads: u8, track: u16, sector: u16) -> Shape {
+fn shape(cylinders: u16, heads: u16, track: u16, sector: u16) -> Shape {
     Shape {
         cylinders: Cylinder(cylinders),
-        heads: Head(heads),
+        heads: Heads(heads),
         track: Position(track),
-        sector: Position(sector),
+        sector: SectorSize(sector),
     }
 }
 
@@ -37,7 +39,7 @@ fn no_times() -> Times {
     let none = Micros(0);
     Times {
         settle: none,
-        step: none,
+        step: PerCylinder(0),
         switch: none,
         recalibrate: none,
         start: none,
@@ -50,7 +52,7 @@ fn no_times() -> Times {
 fn every_option() -> Profile {
     let times = Times {
         settle: Micros(100),
-        step: Micros(10),
+        step: PerCylinder(10),
         switch: Micros(0),
         recalibrate: Micros(400),
         start: Micros(2000),
@@ -127,7 +129,7 @@ fn protected_removable() -> Profile {
 fn slowest_heads() -> Profile {
     let mut times = no_times();
     let settle = Micros(60_000);
-    let step = Micros(1000);
+    let step = PerCylinder(1000);
     let switch = Micros(60_000);
     times.settle = settle;
     times.step = step;

@@ -4,8 +4,9 @@
 use bus_text::Line;
 use bus_text::Scan;
 use counts::Cylinder;
-use counts::Head;
+use counts::Heads;
 use counts::Position;
+use counts::SectorSize;
 use libc::STDIN_FILENO;
 use libc::STDOUT_FILENO;
 use pack_lay::Laid;
@@ -121,12 +122,12 @@ fn show_tried(file: &mut [u8; ROOM], place: u16, value: u8) {
 }
 
 // The smallest drive but for its size, with the longest tracks.
-fn large(cylinders: u16, heads: u8) -> Profile {
+fn large(cylinders: u16, heads: u16) -> Profile {
     let shape = Shape {
         cylinders: Cylinder(cylinders),
-        heads: Head(heads),
+        heads: Heads(heads),
         track: Position(40_960),
-        sector: Position(512),
+        sector: SectorSize(512),
     };
     let mut p = bus_smallest::drive(1);
     p.shape = shape;
@@ -154,7 +155,7 @@ fn lay_smallest(file: &mut [u8; ROOM], place: u16, slot: u8) {
 // Too much for the room, or more than any pack may have.
 fn lay_large(file: &mut [u8; ROOM], cylinders: u16, heads: u8) {
     say_two(b"large", cylinders, heads);
-    lay(file, 0, large(cylinders, heads));
+    lay(file, 0, large(cylinders, heads as u16));
 }
 
 fn step(file: &mut [u8; ROOM], what: u16, place: u16, value: u8) {

@@ -5,7 +5,7 @@ use counts::Cylinder;
 use counts::Head;
 use counts::Micros;
 use counts::Place;
-use counts::Position;
+use counts::SectorSize;
 use drive_record::Arm;
 use drive_record::Body;
 use drive_record::Latched;
@@ -106,7 +106,7 @@ fn with_body(b: Body, name: &[u8], v: u32) -> Body {
         timers,
         arm,
         latched: Latched(half(k == 0, v, b.latched.0)),
-        sector: Position(half(k == 1, v, b.sector.0)),
+        sector: SectorSize(half(k == 1, v, b.sector.0)),
         head: Head(byte(k == 2, v, b.head.0)),
         motor: byte(k == 3, v, b.motor),
         reading: byte(k == 4, v, b.reading),
@@ -135,8 +135,8 @@ fn with_transfer(t: Transfer, k: u8, v: u32) -> Transfer {
         waiting: Micros(whole(k == 0, v, t.waiting.0)),
         bits: whole(k == 1, v, t.bits),
         response: whole(k == 2, v, t.response),
+        count: half(k == 4, v, t.count),
         way: byte(k == 3, v, t.way),
-        count: byte(k == 4, v, t.count),
         acknowledge: byte(k == 5, v, t.acknowledge),
     }
 }
@@ -147,7 +147,7 @@ fn pack_name(name: &[u8]) -> u8 {
 
 fn pack_field(p: Pack, k: u8) -> u32 {
     match k {
-        0 => p.fitted as u32,
+        0 => p.fitted,
         1 => p.place.0,
         2 => p.profile.slot as u32,
         3 => p.profile.general as u32,
@@ -160,14 +160,14 @@ fn with_profile(p: Profile, k: u8, v: u32) -> Profile {
     let mut e = p;
     e.slot = byte(k == 2, v, p.slot);
     e.general = half(k == 3, v, p.general);
-    e.protected = byte(k == 4, v, p.protected);
+    e.protected = half(k == 4, v, p.protected);
     e
 }
 
 fn with_pack(p: Pack, k: u8, v: u32) -> Pack {
     let profile = with_profile(p.profile, k, v);
     Pack {
-        fitted: byte(k == 0, v, p.fitted),
+        fitted: whole(k == 0, v, p.fitted),
         place: Place(whole(k == 1, v, p.place.0)),
         profile,
     }
@@ -193,8 +193,8 @@ fn with_line(l: Lines, k: u8, v: u32) -> Lines {
     Lines {
         select: byte(k == 0, v, l.select),
         heads: Head(byte(k == 1, v, l.heads.0)),
-        writegate: byte(k == 2, v, l.writegate),
-        readgate: byte(k == 3, v, l.readgate),
+        writegate: half(k == 2, v, l.writegate),
+        readgate: half(k == 3, v, l.readgate),
         command: byte(k == 4, v, l.command),
         request: byte(k == 5, v, l.request),
     }

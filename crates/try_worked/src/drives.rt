@@ -1,8 +1,11 @@
 // The drives that words are sent to, and the states that they are in.
 use counts::Cylinder;
 use counts::Head;
+use counts::Heads;
 use counts::Micros;
+use counts::PerCylinder;
 use counts::Position;
+use counts::SectorSize;
 use drive_record::Arm;
 use drive_record::Body;
 use drive_record::Latched;
@@ -78,7 +81,7 @@ fn sync(drive: u8) -> u8 {
     }
 }
 
-fn protected(drive: u8) -> u8 {
+fn protected(drive: u8) -> u16 {
     match drive {
         HARD => 0,
         SOFT => 0,
@@ -90,7 +93,7 @@ fn protected(drive: u8) -> u8 {
 fn times_3180() -> Times {
     Times {
         settle: Micros(3475),
-        step: Micros(25),
+        step: PerCylinder(25),
         switch: Micros(0),
         recalibrate: Micros(250_000),
         start: Micros(20_000_000),
@@ -103,7 +106,7 @@ fn times_worked() -> Times {
     let none = Micros(0);
     Times {
         settle: Micros(3000),
-        step: Micros(20),
+        step: PerCylinder(20),
         switch: none,
         recalibrate: none,
         start: none,
@@ -123,9 +126,9 @@ fn times(drive: u8) -> Times {
 pub fn profile(drive: u8) -> Profile {
     let shape = Shape {
         cylinders: Cylinder(1250),
-        heads: Head(7),
+        heads: Heads(7),
         track: Position(20_832),
-        sector: Position(sector(drive)),
+        sector: SectorSize(sector(drive)),
     };
     let times = times(drive);
     Profile {
@@ -208,7 +211,7 @@ pub fn body(p: Profile, how: u8) -> Body {
         timers,
         arm,
         latched: Latched(latched(how)),
-        sector: Position(size(how, p.shape.sector.0)),
+        sector: SectorSize(size(how, p.shape.sector.0)),
         head: Head(0),
         motor: motor(how),
         reading: only(how, READING),

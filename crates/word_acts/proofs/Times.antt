@@ -6,6 +6,7 @@ use native.Mathlib.Nat.{mul-le-mul}
 use native.Mathlib.Omega.{arith}
 use borrow.Author.Tests.{le-leb}
 use Rattle.counts.specs.declared.Cylinder.{Cylinder}
+use Rattle.counts.specs.declared.Distance.{Distance}
 use Rattle.pack_profile.specs.declared.Profile.{Profile}
 use Rattle.pack_profile.specs.Valid.{validB}
 use Rattle.pack_profile.proofs.FieldRanges.{ranges}
@@ -16,7 +17,7 @@ sum-most : (settle step distance : ℕ) → settle ≤ 60_000 → step ≤ 1000 
 sum-most settle step distance a b c =
     omega (arith, mul-le-mul {n₁ = step} {m₁ = distance} {n₂ = 1000} {m₂ = 4095} b (omega arith))
 
-module _ (p : Profile) (v : validB p ≡ true) (d : Cylinder) (h : d .0 < 4096) where
+module _ (p : Profile) (v : validB p ≡ true) (d : Distance) (h : d .0 < 4096) where
   whole-most : p .times .settle .0 + p .times .step .0 * d .0 ≤ 4_155_000
   whole-most = sum-most (p .times .settle .0) (p .times .step .0) (d .0) (ranges p v .settle) (ranges p v .step) h
 

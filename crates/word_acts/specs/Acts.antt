@@ -3,8 +3,9 @@ use Prim.Native.Nat.{ℕ, _+_, _*_, _-_}
 use mathlib.Core.Bool.{_&&_}
 use lib.Dec.{leb, eqb}
 use Rattle.counts.specs.declared.Cylinder.{Cylinder}
+use Rattle.counts.specs.declared.Distance.{Distance}
 use Rattle.counts.specs.declared.Micros.{Micros}
-use Rattle.counts.specs.declared.Position.{Position}
+use Rattle.counts.specs.declared.SectorSize.{SectorSize}
 use Rattle.counts.specs.Choice.{if_then_else_}
 use Rattle.pack_profile.specs.declared.Times.{Times}
 use Rattle.drive_record.specs.declared.Arm.{Arm}
@@ -14,7 +15,7 @@ use Rattle.word_acts.specs.declared.Act.{Act}
 use Rattle.word_acts.specs.declared.Act.the-variants.{Seek, Recalibrate, Clear, Stop, Start, Offset, Diagnose, Sector}
 
 -- "Distance is the displacement without its sign."
-abbrev pub distanceOf : Cylinder → Cylinder → Cylinder
+abbrev pub distanceOf : Cylinder → Cylinder → Distance
 distanceOf from to = record { 0 = (to .0 - from .0) + (from .0 - to .0) }
 
 -- a timer holds no more than 32 bits
@@ -22,7 +23,7 @@ abbrev pub heldIn32 : ℕ → ℕ
 heldIn32 n = if leb n 4_294_967_295 then n else 4_294_967_295
 
 -- "busy = settle + step × distance"
-unfoldable pub seekTime : Times → Cylinder → Micros
+unfoldable pub seekTime : Times → Distance → Micros
 seekTime t distance = record { 0 = heldIn32 (t .settle .0 + t .step .0 * distance .0) }
 
 -- "A starting motor is up when its busy timer reaches 0, at once if the start time is 0."
@@ -67,7 +68,7 @@ abbrev pub offsetOf : Times → ℕ → Body → Body
 offsetOf t code b = busyFor (t .offset) (with-arm (record { cylinder = b .arm .cylinder; offset = code; lost = b .arm .lost }) b)
 
 -- "sector size"
-abbrev pub sectorOf : Position → Body → Body
+abbrev pub sectorOf : SectorSize → Body → Body
 sectorOf size b = with-sector size b
 
 unfoldable pub actedOf : Times → Body → Act → Body

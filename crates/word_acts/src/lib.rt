@@ -1,7 +1,8 @@
 // What a command does to a drive, by its act.
 use counts::Cylinder;
+use counts::Distance;
 use counts::Micros;
-use counts::Position;
+use counts::SectorSize;
 use drive_record::Arm;
 use drive_record::Body;
 use drive_record::Latched;
@@ -18,7 +19,7 @@ pub enum Act {
     Start,
     Offset(u8),
     Diagnose,
-    Sector(Position),
+    Sector(SectorSize),
 }
 
 // Cylinder 0, offset 0, position found.
@@ -29,17 +30,17 @@ const HOME: Arm = Arm {
 };
 
 // The displacement without its sign.
-fn distance(from: Cylinder, to: Cylinder) -> Cylinder
+fn distance(from: Cylinder, to: Cylinder) -> Distance
     ensures { λ r. ⌜ r ≡ distanceOf from to ⌝ }
 {
     if to.0 < from.0 {
-        return Cylinder(from.0 - to.0);
+        return Distance(from.0 - to.0);
     }
-    Cylinder(to.0 - from.0)
+    Distance(to.0 - from.0)
 }
 
 // A distance becomes a time here alone; a timer holds no more than 32 bits.
-fn seek_time(t: Times, distance: Cylinder) -> Micros
+fn seek_time(t: Times, distance: Distance) -> Micros
     ensures { λ r. ⌜ r ≡ seekTime t distance ⌝ }
 {
     let whole = t.settle.0 as u64 + t.step.0 as u64 * distance.0 as u64;
@@ -141,7 +142,7 @@ fn offset(t: Times, b: Body, code: u8) -> Body
     busy_for(e, t.offset)
 }
 
-fn sector(b: Body, size: Position) -> Body
+fn sector(b: Body, size: SectorSize) -> Body
     ensures { λ r. ⌜ r ≡ sectorOf size b ⌝ }
 {
     let mut e = b;

@@ -1,5 +1,5 @@
 -- A word carried out, and the plain word rules.
-use Prim.Native.Nat.{ℕ, _-_, _^_}
+use Prim.Native.Nat.{ℕ}
 use mathlib.Core.Bool.{Bool, _||_, not}
 use lib.Dec.{eqb}
 use Rattle.counts.specs.Choice.{if_then_else_}
@@ -23,10 +23,6 @@ use Rattle.word_rules.specs.declared.Told.the-variants.{Nothing, Word}
 use Rattle.word_rules.specs.declared.Carried.{Carried}
 use Rattle.word_rules.specs.declared.Answered.{Answered}
 use Rattle.word_rules.specs.Responses.{configurationOf}
-
--- "a word with its parity bit": seventeen bits
-abbrev pub largestWord : ℕ
-largestWord = 2 ^ 17 - 1
 
 abbrev pub carriedAs : Outcome → Told → Body → Carried
 carriedAs o t b = record { body = b; told = t; outcome = o }

@@ -13,9 +13,6 @@ use word_table::decide;
 ghost use mathlib.Core.Path.{_≡_};
 ghost use Rattle.word_rules.specs.Rules.{saying, carryOf, refusesB, refusedPlain, answering, plainOf};
 
-// The largest word with its parity: seventeen bits.
-pub const LARGEST_WORD: u32 = 131_071;
-
 // The response: a word of seventeen bits, its parity last.
 pub enum Told {
     Nothing,

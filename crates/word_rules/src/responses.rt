@@ -1,5 +1,6 @@
 // What a word is answered.
-use counts::Position;
+use counts::Heads;
+use counts::SectorSize;
 use pack_profile::Profile;
 ghost use mathlib.Core.Path.{_≡_};
 ghost use Rattle.word_table.specs.Word.{withParity};
@@ -23,13 +24,13 @@ fn when(test: bool, x: u16) -> u16
 }
 
 // Removable heads in the high byte, fixed ones in the low.
-fn heads(removable: bool, n: u8) -> u16
+fn heads(removable: bool, n: Heads) -> u16
     ensures { λ r. ⌜ r ≡ configuredHeads removable n ⌝ }
 {
     if removable {
-        return n as u16 * 256;
+        return n.0 % 256 * 256;
     }
-    n as u16
+    n.0 % 256
 }
 
 // Whole sectors of a size in a track; of size 0 none.
@@ -43,16 +44,17 @@ fn sectors(track: u16, size: u16) -> u16
 }
 
 // Configuration by modifier, with the sector size now in force.
-pub(crate) fn configuration(p: Profile, sector: Position, modifier: u8) -> u16
+pub(crate) fn configuration(p: Profile, sector: SectorSize, modifier: u8) -> u16
     ensures { λ r. ⌜ r ≡ configurationOf p sector modifier ⌝ }
 {
+    let n = p.shape.heads;
     let removable = pack_profile::general::removable(p.general);
     let size = when(!pack_profile::general::soft(p.general), sector.0);
     match modifier {
         0 => p.general,
         1 => when(!removable, p.shape.cylinders.0),
         2 => when(removable, p.shape.cylinders.0),
-        3 => heads(removable, p.shape.heads.0),
+        3 => heads(removable, n),
         4 => p.shape.track.0,
         5 => size,
         6 => sectors(p.shape.track.0, size),

@@ -3,7 +3,7 @@ use crate::Effect;
 use crate::table;
 use crate::table::Row;
 use counts::Cylinder;
-use counts::Position;
+use counts::SectorSize;
 use drive_record::Body;
 use drive_record::Latched;
 use drive_record::status;
@@ -88,7 +88,7 @@ fn acting(act: u8, w: u16) -> Effect
         Row::PLUS => Effect::Does(Act::Offset(1)),
         Row::MINUS => Effect::Does(Act::Offset(2)),
         Row::DIAGNOSE => Effect::Does(Act::Diagnose),
-        Row::SECTOR => Effect::Does(Act::Sector(Position(number(w)))),
+        Row::SECTOR => Effect::Does(Act::Sector(SectorSize(number(w)))),
         _ => Effect::Fails(Latched::INVALID),
     }
 }

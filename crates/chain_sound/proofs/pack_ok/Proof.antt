@@ -3,9 +3,6 @@ use borrow.Author.Needs.{needs}
 use Rattle.chain_sound.proofs.pack_ok.Statement.{statement}
 use Rattle.chain_sound.proofs.pack_ok.Tie as tie
 
-cast-result : tie.Need-cast-result
-cast-result c = search needs
-
 valid-requires : tie.Need-valid-requires
 valid-requires c κs = search needs
 
@@ -13,4 +10,4 @@ returns : tie.Need-returns
 returns c = simp (← c .valid .ensures)
 
 pub pack-ok-spec : {M : Type 1} → statement M
-pack-ok-spec = tie.close (tie.spec cast-result valid-requires returns)
+pack-ok-spec = tie.close (tie.spec valid-requires returns)

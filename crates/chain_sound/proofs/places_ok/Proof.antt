@@ -5,14 +5,14 @@ use native.Mathlib.Omega.{arith}
 use borrow.Author.Needs.{needs}
 use borrow.Author.Tests.{not-true, not-false}
 use lib.ListN.{length, drop}
-use Rattle.chain_sound.specs.SoundChain.{placesB}
+use Rattle.chain_sound.specs.SoundChain.{fileStart, placesB}
 use Rattle.chain_sound.proofs.Places.{place-fails, place-more, place-done}
 use Rattle.chain_sound.proofs.places_ok.Statement.{statement}
 use Rattle.chain_sound.proofs.places_ok.Tie as tie
 
 abbrev Inv-loop : tie.InvT-loop
 Inv-loop end packs at₀ i₀ at i =
-    (i ≤ 7) × ((length packs ≡ 7) × (placesB packs 1 0 end ≡ placesB (drop i packs) (i + 1) at end))
+    (i ≤ 7) × ((length packs ≡ 7) × (placesB packs 1 fileStart end ≡ placesB (drop i packs) (i + 1) at end))
 
 abbrev μ-loop : tie.MeasureT-loop
 μ-loop end packs at₀ i₀ at i = 7 - i
@@ -50,20 +50,20 @@ loop-less c = search needs
 
 loop-again : tie.Need-loop-again Inv-loop μ-loop
 loop-again c =
-    let t = c .before .before in
+    let t = c .before .before .before in
     let b = t .before .before .before in
     let inv = b .loop .inv in (
       omega arith,
       (
         inv .1 .0,
         place-more (b .before .args .t1) (b .loop .i) (b .loop .at) (b .before .args .end) _ (omega arith) (t .place .result) (t .place .ensures)
-            (inv .1 .1) (not-false _ (c .if1 .left)),
+            (inv .1 .1) (not-false _ (c .before .if1 .left)),
       ),
     )
 
 returns-2 : tie.Need-returns-2 Inv-loop μ-loop
 returns-2 c =
-    let b = c .before in
+    let b = c .before .before .before in
     sym (place-done (b .before .args .t1) (b .loop .i) (b .loop .at) (b .before .args .end) (omega arith) (b .loop .inv .1 .1))
 
 pub places-ok-spec : {M : Type 1} → statement M

@@ -10,9 +10,12 @@ ready-requires c κs = search needs
 complete-requires : tie.Need-complete-requires
 complete-requires c κs = search needs
 
+cast-result : tie.Need-cast-result
+cast-result c = search needs
+
 returns : tie.Need-returns
 unfolding usableB
 returns c = simp (← c .before .before .before .before .ready .ensures, ← c .before .before .before .complete .ensures)
 
 pub usable-spec : {M : Type 1} → statement M
-usable-spec = tie.close (tie.spec ready-requires complete-requires returns)
+usable-spec = tie.close (tie.spec ready-requires complete-requires cast-result returns)

@@ -9,14 +9,11 @@ returns : tie.Need-returns
 unfolding takingB
 returns c = simp (lt-leb _ _ (c .if1 .taken))
 
-cast-result : tie.Need-cast-result
-cast-result c = search needs
-
 add-result : tie.Need-add-result
 add-result c = search needs
 
-cast-result-2 : tie.Need-cast-result-2
-cast-result-2 c = search needs
+cast-result : tie.Need-cast-result
+cast-result c = search needs
 
 shr-result : tie.Need-shr-result
 shr-result c = search needs
@@ -26,5 +23,4 @@ unfolding takingB
 returns-2 c = simp (le-leb _ _ (c .before .before .before .before .before .before .before .if1 .left))
 
 pub taking-spec : {M : Type 1} → statement M
-taking-spec =
-    tie.close (tie.spec returns cast-result add-result cast-result-2 shr-result returns-2)
+taking-spec = tie.close (tie.spec returns add-result cast-result shr-result returns-2)

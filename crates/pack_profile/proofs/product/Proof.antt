@@ -5,10 +5,10 @@ use native.Mathlib.Omega.{arith}
 use Rattle.pack_profile.proofs.product.Statement.{statement}
 use Rattle.pack_profile.proofs.product.Tie as tie
 
-tracks : (c : tie.Start) → c .args .cylinders * c .args .heads ≤ 16_711_425
-tracks c = omega (arith, mul-le-mul {n₁ = c .args .cylinders} {m₁ = c .args .heads} {n₂ = 65_535} {m₂ = 255} (omega arith) (omega arith))
+tracks : (c : tie.Start) → c .args .cylinders * c .args .heads ≤ 4_294_836_225
+tracks c = omega (arith, mul-le-mul {n₁ = c .args .cylinders} {m₁ = c .args .heads} {n₂ = 65_535} {m₂ = 65_535} (omega arith) (omega arith))
 
-bytes : (c : tie.Start) → c .args .cylinders * c .args .heads * c .args .track ≤ 1_095_183_237_375
+bytes : (c : tie.Start) → c .args .cylinders * c .args .heads * c .args .track ≤ 281_462_092_005_375
 bytes c = omega (arith, mul-le-mul {m₁ = c .args .track} {m₂ = 65_535} (tracks c) (omega arith))
 
 mul-result : tie.Need-mul-result

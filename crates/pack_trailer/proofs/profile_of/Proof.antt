@@ -29,6 +29,9 @@ byte-requires-4 c κs = search needs
 byte-requires-5 : tie.Need-byte-requires-5
 byte-requires-5 c κs = search needs
 
+cast-t10 : tie.Need-cast-t10
+cast-t10 c = search needs
+
 returns : tie.Need-returns
 unfolding profileOf
 returns c =
@@ -48,4 +51,5 @@ profile-of-spec =
     byte-requires-3
     byte-requires-4
     byte-requires-5
+    cast-t10
     returns)

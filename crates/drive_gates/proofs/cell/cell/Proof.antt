@@ -5,8 +5,8 @@ use native.Mathlib.Omega.{arith}
 use Rattle.drive_gates.proofs.cell.cell.Statement.{statement}
 use Rattle.drive_gates.proofs.cell.cell.Tie as tie
 
-cells : (c : tie.Start) → c .args .track * c .args .bytes ≤ 1_099_494_785_025
-cells c = omega (arith, mul-le-mul {n₁ = c .args .track} {m₁ = c .args .bytes} {n₂ = 16_777_215} {m₂ = 65_535} (omega arith) (omega arith))
+cells : (c : tie.Start) → c .args .track * c .args .bytes ≤ 281_470_681_677_825
+cells c = omega (arith, mul-le-mul {n₁ = c .args .track} {m₁ = c .args .bytes} {n₂ = 4_294_967_295} {m₂ = 65_535} (omega arith) (omega arith))
 
 mul-result : tie.Need-mul-result
 mul-result c = omega (arith, cells c)

@@ -9,16 +9,22 @@ returns : tie.Need-returns
 unfolding ranged levelLine
 returns c = simp (lt-leb _ _ (c .if1 .taken))
 
-cast-level : tie.Need-cast-level
-cast-level c = search needs
+cast-t5 : tie.Need-cast-t5
+cast-t5 c = search needs
 
 returns-2 : tie.Need-returns-2
 unfolding ranged levelLine
 returns-2 c = simp (le-leb _ _ (c .before .if1 .left), eq-eqb _ _ (c .if2 .taken))
 
+cast-t7 : tie.Need-cast-t7
+cast-t7 c = search needs
+
 returns-3 : tie.Need-returns-3
 unfolding ranged levelLine
 returns-3 c = simp (le-leb _ _ (c .before .before .if1 .left), ne-eqb _ _ (c .before .if2 .left), eq-eqb _ _ (c .if3 .taken))
+
+cast-level : tie.Need-cast-level
+cast-level c = search needs
 
 returns-4 : tie.Need-returns-4
 unfolding ranged levelLine
@@ -45,4 +51,5 @@ returns-5 c =
     )
 
 pub line-spec : {M : Type 1} → statement M
-line-spec = tie.close (tie.spec returns cast-level returns-2 returns-3 returns-4 returns-5)
+line-spec =
+    tie.close (tie.spec returns cast-t5 returns-2 cast-t7 returns-3 cast-level returns-4 returns-5)
