@@ -27,6 +27,9 @@ changedOf packs states (One slot s) = putOf states slot s
 changedOf packs states (Two slot s other t) = putOf (putOf states slot s) other t
 changedOf packs states (Pass us) = mapWith (passSlot us) packs states
 
+abbrev pub withStates : Chain → List State → Chain
+withStates c states = record { packs = c .packs; states = states; lines = c .lines; length = c .length }
+
 -- no event alters a pack's place or profile, or the file's length
 unfoldable pub applied : Chain → Decision → Chain
 applied c d = record { packs = c .packs; states = changedOf (c .packs) (c .states) (d .change); lines = d .lines; length = c .length }

@@ -9,21 +9,21 @@ use drive_record::State;
 use drive_rules::time;
 use pack_read::Pack;
 ghost use mathlib.Core.Path.{_≡_};
-ghost use Rattle.chain_apply.specs.Apply.{putOf, passSlot, changedOf, applied};
+ghost use Rattle.counts.specs.Slots.{mapWith};
+ghost use Rattle.chain_apply.specs.Apply.{putOf, passSlot, withStates, applied};
 
-// The state of a slot put in place of what it was.
-fn put(states: [State; SLOTS], slot: u8, s: State) -> [State; SLOTS]
-    ensures { λ r. ⌜ r ≡ putOf states slot s ⌝ }
+// The record with the state of a slot put in place of what it was.
+fn put(c: Chain, slot: u8, s: State) -> Chain
+    ensures { λ r. ⌜ r ≡ withStates c (putOf (c .states) slot s) ⌝ }
 {
+    let mut e = c;
     if slot < 1 {
-        return states;
+        return e;
     }
     if slot > LAST_SLOT {
-        return states;
+        return e;
     }
-    let i = (slot - 1) as usize;
-    let mut e = states;
-    e[i] = s;
+    e.states[(slot - 1) as usize] = s;
     e
 }
 
@@ -38,49 +38,42 @@ fn pass_slot(p: Pack, s: State, us: Micros) -> State
     r.state
 }
 
-// The states after a change.
-fn changed(packs: [Pack; SLOTS], states: [State; SLOTS], change: Change) -> [State; SLOTS]
-    ensures { λ r. ⌜ r ≡ changedOf packs states change ⌝ }
+// Time passes on every drive.
+fn passed(c: Chain, us: Micros) -> Chain
+    ensures { λ r. ⌜ r ≡ withStates c (mapWith (passSlot us) (c .packs) (c .states)) ⌝ }
 {
-    let mut out = states;
-    match change {
-        Change::Nothing => out,
-        Change::One(at, s) => {
-            if at < 1 {
-                return out;
-            }
-            if at > LAST_SLOT {
-                return out;
-            }
-            out[(at - 1) as usize] = s;
-            out
-        }
-        Change::Two(slot, s, other, t) => put(put(out, slot, s), other, t),
-        Change::Pass(us) => {
-            for i in 0..SLOTS {
-                let p = packs[i];
-                let s = out[i];
-                let t = pass_slot(p, s, us);
-                out[i] = t;
-            }
-            out
-        }
+    let mut e = c;
+    for i in 0..SLOTS {
+        let p = e.packs[i];
+        let s = e.states[i];
+        let t = pass_slot(p, s, us);
+        e.states[i] = t;
     }
+    e
 }
 
-// The record after a decision.
+// The record after a decision. A state is put by its place, since the record is large.
 pub fn apply(c: Chain, d: Decision) -> Chain
     ensures { λ r. ⌜ r ≡ applied c d ⌝ }
 {
-    let packs = c.packs;
-    let states = c.states;
-    let change = d.change;
+    let mut e = c;
     let lines = d.lines;
-    let length = c.length;
-    Chain {
-        packs,
-        states: changed(packs, states, change),
-        lines,
-        length,
+    e.lines = lines;
+    let change = d.change;
+    match change {
+        Change::Nothing => e,
+        // most events change one state: it is put here, without another copy of the record
+        Change::One(slot, s) => {
+            if slot < 1 {
+                return e;
+            }
+            if slot > LAST_SLOT {
+                return e;
+            }
+            e.states[(slot - 1) as usize] = s;
+            e
+        }
+        Change::Two(slot, s, other, t) => put(put(e, slot, s), other, t),
+        Change::Pass(us) => passed(e, us),
     }
 }

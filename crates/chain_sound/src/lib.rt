@@ -7,8 +7,7 @@ use drive_record::State;
 use lines::Lines;
 use pack_read::Pack;
 ghost use mathlib.Core.Path.{_≡_};
-ghost use Rattle.counts.specs.Slots.{allWith};
-ghost use Rattle.chain_sound.specs.SoundChain.{packB, placedOf, fileStart, placesB, driveB, chainSoundB};
+ghost use Rattle.chain_sound.specs.SoundChain.{packB, placedOf, driveB, chainSoundB};
 
 // A fitted slot's pack: valid, in its own slot, and where the packs in front of it end.
 fn pack_ok(p: Pack, slot: u8, at: Place) -> bool
@@ -44,22 +43,6 @@ fn place(p: Pack, slot: u8, at: Place) -> Placed
     }
 }
 
-// Every pack stands where reading the file would put it, and the last ends at the file's end.
-fn places_ok(packs: [Pack; SLOTS], end: Place) -> bool
-    ensures { λ r. ⌜ r ≡ placesB packs 1 fileStart end ⌝ }
-{
-    let mut at = Place(0);
-    for i in 0..SLOTS {
-        let p = packs[i];
-        let placed = place(p, i as u8 + 1, at);
-        if !placed.ok {
-            return false;
-        }
-        at = placed.end;
-    }
-    at.0 == end.0
-}
-
 fn drive_ok(p: Pack, s: State, l: Lines) -> bool
     ensures { λ r. ⌜ r ≡ driveB l p s ⌝ }
 {
@@ -70,32 +53,27 @@ fn drive_ok(p: Pack, s: State, l: Lines) -> bool
     sound::sound(profile, s, l, l.select == profile.slot)
 }
 
-fn drives_ok(packs: [Pack; SLOTS], states: [State; SLOTS], l: Lines) -> bool
-    ensures { λ r. ⌜ r ≡ allWith (driveB l) packs states ⌝ }
-{
-    for i in 0..SLOTS {
-        let p = packs[i];
-        let s = states[i];
-        if !drive_ok(p, s, l) {
-            return false;
-        }
-    }
-    true
-}
-
-// The record isn't malformed.
+// The record isn't malformed: every pack stands where reading the file would put it, the last ends at the file's end, and
+// every drive is one that the rules could leave. A slot's parts alone are taken out of the record, which is large.
 pub fn is_sound(c: Chain) -> bool
     ensures { λ r. ⌜ r ≡ chainSoundB c ⌝ }
 {
     let l = c.lines;
-    let packs = c.packs;
-    let states = c.states;
-    let length = c.length;
     if !lines::kept(l) {
         return false;
     }
-    if !places_ok(packs, length) {
-        return false;
+    let mut at = Place(0);
+    for i in 0..SLOTS {
+        let p = c.packs[i];
+        let s = c.states[i];
+        let placed = place(p, i as u8 + 1, at);
+        if !placed.ok {
+            return false;
+        }
+        if !drive_ok(p, s, l) {
+            return false;
+        }
+        at = placed.end;
     }
-    drives_ok(packs, states, l)
+    at.0 == c.length.0
 }

@@ -11,22 +11,20 @@ returns c = simp (lt-leb _ _ (c .if1 .taken))
 
 returns-2 : tie.Need-returns-2
 unfolding putOf
-returns-2 c =
-    simp (le-leb _ _ (c .before .if1 .left), lt-leb _ _ (c .if2 .taken))
+returns-2 c = simp (le-leb _ _ (c .before .if1 .left), lt-leb _ _ (c .if2 .taken))
 
-cast-i : tie.Need-cast-i
-cast-i c = search needs
+cast-s : tie.Need-cast-s
+cast-s c = search needs
 
-mul-e : tie.Need-mul-e
-mul-e c = search needs
+mul-s : tie.Need-mul-s
+mul-s c = search needs
 
-array-set-from-e : tie.Need-array-set-from-e
-array-set-from-e c = search needs
+element-set-from-s : tie.Need-element-set-from-s
+element-set-from-s c = search needs
 
 returns-3 : tie.Need-returns-3
 unfolding putOf
-returns-3 c =
-    simp (le-leb _ _ (c .before .if1 .left), le-leb _ _ (c .if2 .left))
+returns-3 c = simp (le-leb _ _ (c .before .if1 .left), le-leb _ _ (c .if2 .left))
 
 pub put-spec : {M : Type 1} → statement M
-put-spec = tie.close (tie.spec returns returns-2 cast-i mul-e array-set-from-e returns-3)
+put-spec = tie.close (tie.spec returns returns-2 cast-s mul-s element-set-from-s returns-3)
