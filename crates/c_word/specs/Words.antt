@@ -3,6 +3,7 @@ use Prim.Native.Nat.{ℕ, _+_, _*_}
 use mathlib.Core.Bool.{not}
 use lib.Dec.{ltb}
 use Rattle.counts.specs.Choice.{if_then_else_}
+use Rattle.counts.specs.Slots.{slotB}
 use Rattle.pack_profile.specs.declared.Profile.{Profile}
 use Rattle.drive_record.specs.declared.State.{State}
 use Rattle.word_rules.specs.declared.Told.{Told}
@@ -51,7 +52,6 @@ wordAt c slot n =
 -- "21 operand out of range": a slot is 1 to 7, a word with its parity seventeen bits
 unfoldable pub slotWord : Chain → ℕ → ℕ → Coded
 slotWord c slot n =
-    if ltb slot 1 then refusedWord c OutOfRange
-    else if ltb 7 slot then refusedWord c OutOfRange
+    if not (slotB slot) then refusedWord c OutOfRange
     else if ltb largest n then refusedWord c OutOfRange
     else wordAt c slot n

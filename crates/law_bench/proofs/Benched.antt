@@ -8,7 +8,8 @@ use native.Mathlib.Nat.{pow-suc}
 use lib.Dec.{eqb}
 use lib.ListN.{length}
 use borrow.Author.Tests.{leb-true, le-ltb}
-use Rattle.counts.proofs.Tests.{each, within-both}
+use Rattle.counts.proofs.Tests.{each}
+use Rattle.handshake.specs.Transfer.{largest}
 use Rattle.pack_profile.specs.declared.Profile.{Profile}
 use Rattle.pack_read.specs.Packs.{fittedB}
 use Rattle.drive_record.specs.declared.State.{State}
@@ -126,9 +127,7 @@ module _ (w : Sending) (d : Lent) (fit : InTime w) (low : Each (λ us. us ≤ 65
     given-by : slotWord last slot (word w d)
         ≡ record { chain = stateIn last slot (benchAnswer w d .state); code = wordCode (outcomeAnswer (benchAnswer w d .outcome)) (benchAnswer w d .told) }
     unfolding slotWord wordAt sentOf lookOf applied decideOf passEvent
-    given-by =
-        let in-range = within-both 1 7 slot (is-slot c (r .sound) slot fitted) in
-        rw (le-ltb slot 1 (in-range .0), le-ltb 7 slot (in-range .1), le-ltb 131_071 (word w d) (omega (arith, word-below)), last-sound, fitted)
+    given-by = rw (is-slot c (r .sound) slot fitted, le-ltb largest (word w d) (omega (arith, word-below)), last-sound, fitted)
 
     word-is : benchWord w d us
         ≡ record { chain = stateIn last slot (benchAnswer w d .state); code = wordCode (outcomeAnswer (benchAnswer w d .outcome)) (benchAnswer w d .told) }

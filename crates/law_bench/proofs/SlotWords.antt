@@ -4,7 +4,9 @@ use mathlib.Core.Bool.{true, not}
 use Prim.Native.Nat.{ℕ}
 use lib.Dec.{ltb, eqb}
 use borrow.Author.Tests.{not-false}
+use Rattle.counts.specs.Slots.{slotB}
 use Rattle.counts.proofs.Choice.{by-test}
+use Rattle.handshake.specs.Transfer.{largest}
 use Rattle.pack_read.specs.Packs.{fittedB}
 use Rattle.drive_record.specs.declared.State.{State}
 use Rattle.word_rules.specs.Rules.{plainOf}
@@ -37,9 +39,8 @@ module _ (c : Chain) (slot n : ℕ) where
   unfolding slotWord wordAt sentOf
   either-left P same new =
       let or = by-test (λ (x : Coded). P (x .chain)) in
-      or (ltb slot 1) _ _ (λ _. same) λ _.
-      or (ltb 7 slot) _ _ (λ _. same) λ _.
-      or (ltb 131_071 n) _ _ (λ _. same) λ _.
+      or (not (slotB slot)) _ _ (λ _. same) λ _.
+      or (ltb largest n) _ _ (λ _. same) λ _.
       or (not (chainSoundB c)) _ _ (λ _. same) λ formed.
       or (not (fittedB (slotPack (c .packs) slot))) _ _ (λ _. same) λ there. new (not-false _ formed) (not-false _ there)
 

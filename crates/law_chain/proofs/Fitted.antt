@@ -35,10 +35,10 @@ use Rattle.drive_record.specs.declared.State.{State}
 use Rattle.drive_record.specs.State.{freshOf}
 use Rattle.drive_cable.specs.SoundDrive as unit
 use Rattle.law_drive.proofs.Keeps.{fresh-sound}
-use Rattle.chain_record.specs.declared.Chain.{Chain}
 use Rattle.chain_fit.specs.Fresh.{lowLines, freshSlot, blankStates, endOf, freshFit}
 use Rattle.chain_sound.specs.SoundChain.{placedOf, fileStart, placesB, driveB, chainSoundB}
 use Rattle.chain_sound.proofs.SoundSlots.{placed-at}
+use Rattle.chain_step.proofs.Empty.{emptyChain, empty-sound}
 
 -- the slots from a base on
 abbrev slotsFrom : ℕ → List Contents → ℕ → List Pack → List Pack
@@ -207,10 +207,6 @@ empty-all : (l : List ℕ) → Empty (readAll l)
 unfolding readAll
 empty-all l = either-way Empty (ltb longestFile (length l)) (λ ne. refl) (empty-back (suc (length l)) l 8 noPacks)
 
--- the chain that no drive is on, over a file of no bytes
-abbrev pub emptyChain : Chain
-emptyChain = record { packs = noPacks; states = blankStates; lines = lowLines; length = record { 0 = 0 } }
-
 end-refused : (a : Reading) (n : ℕ) → (a ≡ Whole → ⊥) → endOf a n ≡ 0
 unfolding endOf
 end-refused Whole n ne = absurd (ne refl)
@@ -219,10 +215,6 @@ end-refused (Refused why at) n ne = refl
 pub refused-empty : (file : List ℕ) → (readAll file .answer ≡ Whole → ⊥) → freshFit file .chain ≡ emptyChain
 unfolding freshFit freshSlot
 refused-empty file ne = rw (empty-all file ne, end-refused (readAll file .answer) (length file) ne)
-
-empty-sound : chainSoundB emptyChain ≡ true
-unfolding chainSoundB placedOf driveB
-empty-sound = refl
 
 -- the chain of any file is sound
 pub fitted-sound : (file : List ℕ) → Bytes file → chainSoundB (freshFit file .chain) ≡ true

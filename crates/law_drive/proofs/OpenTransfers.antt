@@ -1,10 +1,10 @@
 -- What the handshake leaves, way by way, as named facts both ways.
 use mathlib.Core.Path.{_≡_, refl}
 use mathlib.Core.Bool.{Bool, true, false, false≢true}
-use Prim.Native.Nat.{ℕ, _+_, _/_, _^_, _≤_, _<_}
+use Prim.Native.Nat.{ℕ, _+_, _/_, _^_, _≤_}
 use native.Mathlib.Omega.{arith}
 use lib.Dec.{eqb}
-use borrow.Author.Tests.{leb-true, ltb-true, eqb-true, le-leb, eq-eqb}
+use borrow.Author.Tests.{leb-true, eqb-true, le-leb, eq-eqb}
 use Rattle.counts.specs.Choice.{if_then_else_}
 use Rattle.counts.proofs.Tests.{both, join, each, all}
 use Rattle.handshake.specs.declared.Transfer.{Transfer}
