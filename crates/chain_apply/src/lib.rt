@@ -62,17 +62,7 @@ pub fn apply(c: Chain, d: Decision) -> Chain
     let change = d.change;
     match change {
         Change::Nothing => e,
-        // most events change one state: it is put here, without another copy of the record
-        Change::One(slot, s) => {
-            if slot < 1 {
-                return e;
-            }
-            if slot > LAST_SLOT {
-                return e;
-            }
-            e.states[(slot - 1) as usize] = s;
-            e
-        }
+        Change::One(slot, s) => put(e, slot, s),
         Change::Two(slot, s, other, t) => put(put(e, slot, s), other, t),
         Change::Pass(us) => passed(e, us),
     }
