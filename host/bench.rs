@@ -1,8 +1,8 @@
-//! Nanoseconds an event, by kind, through C and by the twin, in one run;
+//! Nanoseconds an event, by kind, through C and by the twin, and of a plain check of the record, in one run;
 //! nanoseconds a fit, of a small and a large file; and the event lines of a
 //! run of the bus, for the runners to be timed on.
 //!
-//!     bench [EVENTS [CASE DRIVES WHO]]   EVENTS a case; one CASE alone, by ours or twin, as for callgrind
+//!     bench [EVENTS [CASE DRIVES WHO]]   EVENTS a case; one CASE alone, by ours, twin or limit, as for callgrind
 //!     bench fits N                       N fits of each file
 //!     bench lines N                      N event lines on standard output
 
@@ -159,7 +159,7 @@ fn run() {
     let fitted = arguments.get(2).map_or(vec![1u8, 7], |s| vec![s.parse().expect("how many drives")]);
     let runs = |who: &str| if arguments.get(3).map_or(true, |s| s == who) { 5 } else { 0 };
     for drives in fitted {
-        println!("{} fitted: ns an event through C, by the twin, ratio", drives);
+        println!("{} fitted: ns an event through C, by the twin, of the limit; ratio to the twin, to the limit", drives);
         let profiles: Vec<_> = (1..=drives).map(profile).collect();
         for (number, case) in cases().into_iter().enumerate() {
             if only.map_or(false, |o| o != number) {
@@ -177,7 +177,10 @@ fn run() {
             let plain = least(runs("twin"), n, &case.turn, |kind, a, b| {
                 kept(twin::step(kept(&mut chain), &mut file, kind, a, b));
             });
-            println!("{:16} {:7.1} {:7.1} {:6.2}", case.name, ours, plain, ours / plain);
+            let limit = least(runs("limit"), n, &case.turn, |_, _, _| {
+                kept(esdi::limit(kept(&record)));
+            });
+            println!("{:16} {:7.1} {:7.1} {:7.1} {:6.2} {:6.2}", case.name, ours, plain, limit, ours / plain, ours / limit);
         }
     }
 }

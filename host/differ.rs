@@ -403,7 +403,8 @@ fn changed_record(dice: &mut Dice, pair: &Pair) -> Option<u8> {
         }
     };
     let shown = esdi::chain_of(&before).filter(|c| !twin::malformed(c)).map_or((22, 0), |c| (0, twin::line_sum(&c)));
-    if ours == theirs && record == after && file == twins && esdi::lines(&before) == shown {
+    let sound = esdi::limit(&before) == (shown.0 == 0);
+    if ours == theirs && record == after && file == twins && esdi::lines(&before) == shown && sound {
         return Some(ours.0);
     }
     println!("DIFFERENCE on the record {:?}\nevent {:?}: {:?}, the twin's {:?}\nrecord after {:?}", before, event, ours, theirs, record);

@@ -128,6 +128,12 @@ extern "C" {
     fn esdi_packs(file: *const u8, length: usize) -> u64;
     fn esdi_pack_at(pack: *mut Pack, file: *const u8, length: usize, slot: u32) -> u64;
     fn esdi_lay(part: *mut u8, length: usize, profile: *const Profile) -> u32;
+    fn limit_sound(chain: *const Chain) -> i32;
+}
+
+/// The plain check of host/limit.c.
+pub fn limit(chain: &Chain) -> bool {
+    unsafe { limit_sound(chain) != 0 }
 }
 
 /// The empty chain.
