@@ -1389,13 +1389,6 @@ pub fn plain_word(d: &mut Drive, word17: u32) -> Option<u32> {
 // A record malformed: each clause by itself
 // ===========================================================================
 
-fn any_drive(chain: &Chain, breaks: &dyn Fn(u8, &Drive) -> bool) -> bool {
-    (1..=7).any(|slot| match chain.in_slot(slot) {
-        Some(d) => breaks(slot, d),
-        None => false,
-    })
-}
-
 /// "select code ≤ 7"
 pub fn select_code_over_7(chain: &Chain) -> bool {
     chain.select > 7
@@ -1408,53 +1401,53 @@ pub fn head_lines_over_15(chain: &Chain) -> bool {
 }
 
 /// "Limits: pack fields ... as below"
-pub fn pack_field_out_of_range(chain: &Chain) -> bool {
-    any_drive(chain, &|_, d| !valid_profile(&d.profile))
+pub fn pack_field_out_of_range(_: &Chain, _: u8, d: &Drive) -> bool {
+    !valid_profile(&d.profile)
 }
 
 /// "and sector size as below"
-pub fn sector_size_out_of_range(chain: &Chain) -> bool {
-    any_drive(chain, &|_, d| !sector_size_fits(&d.profile, d.sector))
+pub fn sector_size_out_of_range(_: &Chain, _: u8, d: &Drive) -> bool {
+    !sector_size_fits(&d.profile, d.sector)
 }
 
 /// "cylinder below cylinders"
-pub fn cylinder_out_of_range(chain: &Chain) -> bool {
-    any_drive(chain, &|_, d| d.cylinder >= d.profile.cylinders)
+pub fn cylinder_out_of_range(_: &Chain, _: u8, d: &Drive) -> bool {
+    d.cylinder >= d.profile.cylinders
 }
 
 /// "offset −1 to 1"
-pub fn offset_out_of_range(chain: &Chain) -> bool {
-    any_drive(chain, &|_, d| d.offset < -1 || d.offset > 1)
+pub fn offset_out_of_range(_: &Chain, _: u8, d: &Drive) -> bool {
+    d.offset < -1 || d.offset > 1
 }
 
 /// "head ≤ 15"
-pub fn head_over_15(chain: &Chain) -> bool {
-    any_drive(chain, &|_, d| d.head > 15)
+pub fn head_over_15(_: &Chain, _: u8, d: &Drive) -> bool {
+    d.head > 15
 }
 
 /// "busy ≤ 30,000,000"
-pub fn busy_over_limit(chain: &Chain) -> bool {
-    any_drive(chain, &|_, d| d.busy > 30_000_000)
+pub fn busy_over_limit(_: &Chain, _: u8, d: &Drive) -> bool {
+    d.busy > 30_000_000
 }
 
 /// "head timer ≤ 60,000"
-pub fn head_timer_over_limit(chain: &Chain) -> bool {
-    any_drive(chain, &|_, d| d.head_timer > 60_000)
+pub fn head_timer_over_limit(_: &Chain, _: u8, d: &Drive) -> bool {
+    d.head_timer > 60_000
 }
 
 /// "waiting ≤ 10,000"
-pub fn waiting_over_limit(chain: &Chain) -> bool {
-    any_drive(chain, &|_, d| d.waiting > LONGEST_WAIT)
+pub fn waiting_over_limit(_: &Chain, _: u8, d: &Drive) -> bool {
+    d.waiting > LONGEST_WAIT
 }
 
 /// "no latched bit but those listed below"
-pub fn unlisted_bit_latched(chain: &Chain) -> bool {
-    any_drive(chain, &|_, d| d.latched & !LATCHED_BITS != 0)
+pub fn unlisted_bit_latched(_: &Chain, _: u8, d: &Drive) -> bool {
+    d.latched & !LATCHED_BITS != 0
 }
 
 /// As we read it: a drive's pack names its own slot.
-pub fn pack_names_another_slot(chain: &Chain) -> bool {
-    any_drive(chain, &|slot, d| d.profile.slot != slot)
+pub fn pack_names_another_slot(_: &Chain, slot: u8, d: &Drive) -> bool {
+    d.profile.slot != slot
 }
 
 /// "a pack's place isn't one the file rules could give". As we read it: from 0
@@ -1474,36 +1467,32 @@ pub fn place_not_from_the_file_rules(chain: &Chain) -> bool {
 }
 
 /// "a starting motor has busy 0"
-pub fn starting_motor_with_busy_0(chain: &Chain) -> bool {
-    any_drive(chain, &|_, d| d.motor == Motor::Starting && d.busy == 0)
+pub fn starting_motor_with_busy_0(_: &Chain, _: u8, d: &Drive) -> bool {
+    d.motor == Motor::Starting && d.busy == 0
 }
 
 /// "a drive reads or writes where it is unselected"
-pub fn reads_or_writes_unselected(chain: &Chain) -> bool {
-    any_drive(chain, &|slot, d| (d.reading || d.writing) && slot != chain.select)
+pub fn reads_or_writes_unselected(chain: &Chain, slot: u8, d: &Drive) -> bool {
+    (d.reading || d.writing) && slot != chain.select
 }
 
 /// "[or] its gate is low"
-pub fn reads_with_its_gate_low(chain: &Chain) -> bool {
-    any_drive(chain, &|_, d| d.reading && !chain.read_gate)
+pub fn reads_with_its_gate_low(chain: &Chain, _: u8, d: &Drive) -> bool {
+    d.reading && !chain.read_gate
 }
 
-pub fn writes_with_its_gate_low(chain: &Chain) -> bool {
-    any_drive(chain, &|_, d| d.writing && !chain.write_gate)
+pub fn writes_with_its_gate_low(chain: &Chain, _: u8, d: &Drive) -> bool {
+    d.writing && !chain.write_gate
 }
 
 /// "or that gate's rule would stop it". As we read it: the other gate being on
 /// included and, for writing, attention.
-pub fn reads_against_its_gates_rule(chain: &Chain) -> bool {
-    any_drive(chain, &|_, d| {
-        d.reading && read_gate_rule(d, chain.write_gate) != GateRule::Begins
-    })
+pub fn reads_against_its_gates_rule(chain: &Chain, _: u8, d: &Drive) -> bool {
+    d.reading && read_gate_rule(d, chain.write_gate) != GateRule::Begins
 }
 
-pub fn writes_against_its_gates_rule(chain: &Chain) -> bool {
-    any_drive(chain, &|_, d| {
-        d.writing && write_gate_rule(d, chain.read_gate) != GateRule::Begins
-    })
+pub fn writes_against_its_gates_rule(chain: &Chain, _: u8, d: &Drive) -> bool {
+    d.writing && write_gate_rule(d, chain.read_gate) != GateRule::Begins
 }
 
 /// "the selected drive's head isn't the head lines". As we read it: compared
@@ -1516,127 +1505,150 @@ pub fn selected_head_is_not_the_head_lines(chain: &Chain) -> bool {
 }
 
 /// "an unselected drive has a transfer"
-pub fn unselected_drive_has_a_transfer(chain: &Chain) -> bool {
-    any_drive(chain, &|slot, d| transfer_open(d) && slot != chain.select)
+pub fn unselected_drive_has_a_transfer(chain: &Chain, slot: u8, d: &Drive) -> bool {
+    transfer_open(d) && slot != chain.select
 }
 
 /// "an open transfer's acknowledge ... [isn't] what the handshake leaves at
 /// that request level". As we read it: it equals the request level.
-pub fn open_transfers_acknowledge_is_not_the_request(chain: &Chain) -> bool {
-    any_drive(chain, &|_, d| transfer_open(d) && d.acknowledge != chain.request)
+pub fn open_transfers_acknowledge_is_not_the_request(chain: &Chain, _: u8, d: &Drive) -> bool {
+    transfer_open(d) && d.acknowledge != chain.request
 }
 
 /// "an open transfer's ... bit counts aren't what the handshake leaves at
 /// that request level". As we read it: taking, 1 to 16 bits at low, 1 to 17 at
 /// high.
-pub fn taking_count_is_not_the_handshakes(chain: &Chain) -> bool {
+pub fn taking_count_is_not_the_handshakes(chain: &Chain, _: u8, d: &Drive) -> bool {
     let most = if chain.request { 17 } else { 16 };
-    any_drive(chain, &|_, d| {
-        d.transfer == Transfer::Taking && (d.count < 1 || d.count > most)
-    })
+    d.transfer == Transfer::Taking && (d.count < 1 || d.count > most)
 }
 
 /// As we read it: responding, 0 to 16 out at low, 1 to 17 at high.
-pub fn responding_count_is_not_the_handshakes(chain: &Chain) -> bool {
+pub fn responding_count_is_not_the_handshakes(chain: &Chain, _: u8, d: &Drive) -> bool {
     let (least, most) = if chain.request { (1, 17) } else { (0, 16) };
-    any_drive(chain, &|_, d| {
-        d.transfer == Transfer::Responding && (d.count < least || d.count > most)
-    })
+    d.transfer == Transfer::Responding && (d.count < least || d.count > most)
 }
 
 /// As we read it: the collected bits are below two to the power of their
 /// count. (A count over 17 breaks the clause above; here it counts as 17.)
-pub fn taken_bits_over_their_count(chain: &Chain) -> bool {
-    any_drive(chain, &|_, d| {
-        d.transfer == Transfer::Taking && d.bits as u64 >= 1u64 << d.count.min(17)
-    })
+pub fn taken_bits_over_their_count(_: &Chain, _: u8, d: &Drive) -> bool {
+    d.transfer == Transfer::Taking && d.bits as u64 >= 1u64 << d.count.min(17)
 }
 
 /// As we read it: a response is below 2^17.
-pub fn response_over_17_bits(chain: &Chain) -> bool {
-    any_drive(chain, &|_, d| d.transfer == Transfer::Responding && d.response >= 1 << 17)
+pub fn response_over_17_bits(_: &Chain, _: u8, d: &Drive) -> bool {
+    d.transfer == Transfer::Responding && d.response >= 1 << 17
 }
 
 /// The twin's record has places for both; the handshake leaves no response
 /// while a word is being taken, and no collected bits once it is carried
 /// out.
-pub fn response_while_taking(chain: &Chain) -> bool {
-    any_drive(chain, &|_, d| d.transfer == Transfer::Taking && d.response != 0)
+pub fn response_while_taking(_: &Chain, _: u8, d: &Drive) -> bool {
+    d.transfer == Transfer::Taking && d.response != 0
 }
 
-pub fn taken_bits_while_responding(chain: &Chain) -> bool {
-    any_drive(chain, &|_, d| d.transfer == Transfer::Responding && d.bits != 0)
+pub fn taken_bits_while_responding(_: &Chain, _: u8, d: &Drive) -> bool {
+    d.transfer == Transfer::Responding && d.bits != 0
 }
 
 /// "a drive with no open transfer has acknowledge up"
-pub fn acknowledge_without_transfer(chain: &Chain) -> bool {
-    any_drive(chain, &|_, d| !transfer_open(d) && d.acknowledge)
+pub fn acknowledge_without_transfer(_: &Chain, _: u8, d: &Drive) -> bool {
+    !transfer_open(d) && d.acknowledge
 }
 
 /// "or any collected bit"
-pub fn collected_bit_without_transfer(chain: &Chain) -> bool {
-    any_drive(chain, &|_, d| !transfer_open(d) && (d.count != 0 || d.bits != 0))
+pub fn collected_bit_without_transfer(_: &Chain, _: u8, d: &Drive) -> bool {
+    !transfer_open(d) && (d.count != 0 || d.bits != 0)
 }
 
 /// "response"
-pub fn response_without_transfer(chain: &Chain) -> bool {
-    any_drive(chain, &|_, d| !transfer_open(d) && d.response != 0)
+pub fn response_without_transfer(_: &Chain, _: u8, d: &Drive) -> bool {
+    !transfer_open(d) && d.response != 0
 }
 
 /// "or waiting time other than 0"
-pub fn waiting_without_transfer(chain: &Chain) -> bool {
-    any_drive(chain, &|_, d| !transfer_open(d) && d.waiting != 0)
+pub fn waiting_without_transfer(_: &Chain, _: u8, d: &Drive) -> bool {
+    !transfer_open(d) && d.waiting != 0
 }
 
-/// A clause: its name and its test.
-pub type Clause = (&'static str, fn(&Chain) -> bool);
+/// A clause that speaks of the chain, and one that speaks of each drive: its name and its test.
+pub enum Clause {
+    OfChain(&'static str, fn(&Chain) -> bool),
+    OfDrive(&'static str, fn(&Chain, u8, &Drive) -> bool),
+}
 
-/// "A record is malformed when ...", clause by clause, in the paper's order.
-pub const CLAUSES: [Clause; 32] = [
-    ("select_code_over_7", select_code_over_7),
-    ("head_lines_over_15", head_lines_over_15),
-    ("pack_field_out_of_range", pack_field_out_of_range),
-    ("sector_size_out_of_range", sector_size_out_of_range),
-    ("cylinder_out_of_range", cylinder_out_of_range),
-    ("offset_out_of_range", offset_out_of_range),
-    ("head_over_15", head_over_15),
-    ("busy_over_limit", busy_over_limit),
-    ("head_timer_over_limit", head_timer_over_limit),
-    ("waiting_over_limit", waiting_over_limit),
-    ("unlisted_bit_latched", unlisted_bit_latched),
-    ("pack_names_another_slot", pack_names_another_slot),
-    ("place_not_from_the_file_rules", place_not_from_the_file_rules),
-    ("starting_motor_with_busy_0", starting_motor_with_busy_0),
-    ("reads_or_writes_unselected", reads_or_writes_unselected),
-    ("reads_with_its_gate_low", reads_with_its_gate_low),
-    ("writes_with_its_gate_low", writes_with_its_gate_low),
-    ("reads_against_its_gates_rule", reads_against_its_gates_rule),
-    ("writes_against_its_gates_rule", writes_against_its_gates_rule),
-    ("selected_head_is_not_the_head_lines", selected_head_is_not_the_head_lines),
-    ("unselected_drive_has_a_transfer", unselected_drive_has_a_transfer),
-    (
-        "open_transfers_acknowledge_is_not_the_request",
-        open_transfers_acknowledge_is_not_the_request,
-    ),
-    ("taking_count_is_not_the_handshakes", taking_count_is_not_the_handshakes),
-    ("responding_count_is_not_the_handshakes", responding_count_is_not_the_handshakes),
-    ("taken_bits_over_their_count", taken_bits_over_their_count),
-    ("response_over_17_bits", response_over_17_bits),
-    ("response_while_taking", response_while_taking),
-    ("taken_bits_while_responding", taken_bits_while_responding),
-    ("acknowledge_without_transfer", acknowledge_without_transfer),
-    ("collected_bit_without_transfer", collected_bit_without_transfer),
-    ("response_without_transfer", response_without_transfer),
-    ("waiting_without_transfer", waiting_without_transfer),
-];
+/// The clauses, and whether one is broken: the chain's first, then each drive's, a drive at a time.
+macro_rules! clauses {
+    ($($kind:ident $name:ident),*) => {
+        /// "A record is malformed when ...", clause by clause, in the paper's order.
+        pub const CLAUSES: [Clause; 32] = [$(Clause::$kind(stringify!($name), $name)),*];
+
+        pub fn malformed(chain: &Chain) -> bool {
+            $(clauses!(@chain $kind $name chain) ||)* (1..=7).any(|slot| match chain.in_slot(slot) {
+                Some(d) => $(clauses!(@drive $kind $name chain slot d) ||)* false,
+                None => false,
+            })
+        }
+    };
+    (@chain OfChain $name:ident $chain:ident) => { $name($chain) };
+    (@chain OfDrive $name:ident $chain:ident) => { false };
+    (@drive OfChain $name:ident $chain:ident $slot:ident $d:ident) => { false };
+    (@drive OfDrive $name:ident $chain:ident $slot:ident $d:ident) => { $name($chain, $slot, $d) };
+}
+
+clauses!(
+    OfChain select_code_over_7,
+    OfChain head_lines_over_15,
+    OfDrive pack_field_out_of_range,
+    OfDrive sector_size_out_of_range,
+    OfDrive cylinder_out_of_range,
+    OfDrive offset_out_of_range,
+    OfDrive head_over_15,
+    OfDrive busy_over_limit,
+    OfDrive head_timer_over_limit,
+    OfDrive waiting_over_limit,
+    OfDrive unlisted_bit_latched,
+    OfDrive pack_names_another_slot,
+    OfChain place_not_from_the_file_rules,
+    OfDrive starting_motor_with_busy_0,
+    OfDrive reads_or_writes_unselected,
+    OfDrive reads_with_its_gate_low,
+    OfDrive writes_with_its_gate_low,
+    OfDrive reads_against_its_gates_rule,
+    OfDrive writes_against_its_gates_rule,
+    OfChain selected_head_is_not_the_head_lines,
+    OfDrive unselected_drive_has_a_transfer,
+    OfDrive open_transfers_acknowledge_is_not_the_request,
+    OfDrive taking_count_is_not_the_handshakes,
+    OfDrive responding_count_is_not_the_handshakes,
+    OfDrive taken_bits_over_their_count,
+    OfDrive response_over_17_bits,
+    OfDrive response_while_taking,
+    OfDrive taken_bits_while_responding,
+    OfDrive acknowledge_without_transfer,
+    OfDrive collected_bit_without_transfer,
+    OfDrive response_without_transfer,
+    OfDrive waiting_without_transfer
+);
+
+impl Clause {
+    pub fn name(&self) -> &'static str {
+        match self {
+            Clause::OfChain(name, _) | Clause::OfDrive(name, _) => name,
+        }
+    }
+
+    fn broken(&self, chain: &Chain) -> bool {
+        match self {
+            Clause::OfChain(_, breaks) => breaks(chain),
+            Clause::OfDrive(_, breaks) => (1..=7).any(|slot| chain.in_slot(slot).map_or(false, |d| breaks(chain, slot, d))),
+        }
+    }
+}
 
 /// The names of the clauses a record breaks.
 pub fn broken_clauses(chain: &Chain) -> Vec<&'static str> {
-    CLAUSES.iter().filter(|c| (c.1)(chain)).map(|c| c.0).collect()
-}
-
-pub fn malformed(chain: &Chain) -> bool {
-    CLAUSES.iter().any(|c| (c.1)(chain))
+    CLAUSES.iter().filter(|c| c.broken(chain)).map(|c| c.name()).collect()
 }
 
 /// "A chain is sound exactly when its record isn't malformed and the lent

@@ -1481,7 +1481,7 @@ fn decision_47_reading_and_writing() {
 #[test]
 fn every_clause_has_been_seen_alone() {
     // The names used in the tests above, against the table.
-    let names: Vec<&str> = CLAUSES.iter().map(|c| c.0).collect();
+    let names: Vec<&str> = CLAUSES.iter().map(|c| c.name()).collect();
     let source = include_str!("twin_test.rs");
     for name in names {
         assert!(source.contains(&format!("vec![\"{}\"", name)), "{}", name);
