@@ -5,9 +5,10 @@
  * at as many bytes as its length says (any pointer will do where the length is 0). What one call is lent may not
  * overlap.
  *
- * A record is plain data, without pointers or padding. It may be copied, kept and compared byte by byte. All zeros is the
- * empty chain: no drive, all lines low, a file of length 0. Fields may be read at any time; a record that was written
- * to by hand is checked by every call that acts on it and refused with 22 where the rules could not have left it.
+ * A record is plain data, without pointers or padding. It may be copied, kept and compared byte by byte. All zeros is
+ * the empty chain: no drive, all lines low, a file of length 0. Fields may be read at any time; a record that was
+ * written to by hand is checked by every call that acts on it and refused with 22 where the rules could not have left
+ * it.
  *
  * Link with libesdi.a, which `rt staticlib esdi` writes. */
 #ifndef ESDI_H
@@ -32,7 +33,7 @@ enum esdi_answer {
     ESDI_OUT_OF_RANGE = 21, /* operand out of range */
     ESDI_MALFORMED = 22,    /* chain record malformed */
     ESDI_WRONG_LENGTH = 23, /* the file's length isn't the record's */
-    ESDI_INAPPLICABLE = 24, /* condition or word for an empty slot, or condition 3 on a fixed drive */
+    ESDI_INAPPLICABLE = 24, /* condition, word or pack of an empty slot, or condition 3 on a fixed drive */
     ESDI_PAST_TRACK = 25,   /* cell position at or past the track's length */
     ESDI_SHORT = 30,        /* of a pack file: fewer than 44 bytes left */
     ESDI_DISTANCE = 31,     /* distance below 44 or more than is left */
