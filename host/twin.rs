@@ -4,7 +4,8 @@
 //!
 //! Where the paper is open, "as we read it" says what decides here;
 //! docs/DECISIONS.md says the same points in its own order.
-//! Sentences in quotation marks are document 01's.
+//! Sentences in quotation marks are document 01's, but where a request of
+//! document 02 is named: the requests that have landed are in here too.
 //!
 //! Build:  rustc -O twin.rs          (a library)
 //!         rustc -O twin_bus.rs      (the program, uses this file as a module)
@@ -1273,13 +1274,16 @@ fn distance(from: u16, to: u16) -> u32 {
     }
 }
 
-/// "busy = settle + step × distance" (no sum overflows on a valid profile)
+/// Document 02, request 1: "The seek time becomes 0 for distance 0 and stays
+/// settle + step × distance otherwise." (no sum overflows on a valid profile)
 fn seek_time(p: &Profile, distance: u32) -> u32 {
+    if distance == 0 {
+        return 0;
+    }
     p.settle.saturating_add(p.step as u32 * distance)
 }
 
-/// "offset 0; busy = settle + step × distance" and "The cylinder changes at
-/// once."
+/// "offset 0; busy = .." the seek time, and "The cylinder changes at once."
 fn seek(d: &mut Drive, to: u16) {
     d.busy = seek_time(&d.profile, distance(d.cylinder, to));
     d.cylinder = to;

@@ -1,8 +1,8 @@
 //! Tests of the twin: the paper's own values, tests of how the paper is read,
 //! and random trials of soundness, refusals, demand 3 and the pack file. A
-//! test `decision_N` tries the decision of that number in docs/DECISIONS.md;
-//! `differences` is docs/DIFFERENCES.md. Figures are printed with
-//! `--nocapture`.
+//! test `decision_N` tries the decision of that number in docs/DECISIONS.md,
+//! `request_N` that request of document 02; `differences` is
+//! docs/DIFFERENCES.md. Figures are printed with `--nocapture`.
 
 use super::*;
 use std::collections::BTreeMap;
@@ -1021,7 +1021,8 @@ fn decision_25_and_50_busy_is_set_and_only_by_these() {
         plain_word(&mut d, with_parity(word));
         d.busy
     };
-    assert_eq!(busy_after(&fresh, 0x0000), 100); // settle also at distance 0
+    assert_eq!(busy_after(&fresh, 0x0000), 0); // request 1: distance 0
+    assert_eq!(busy_after(&fresh, 0x0001), 107);
     assert_eq!(busy_after(&fresh, 0x0009), 163);
     assert_eq!(busy_after(&fresh, 0x1000), 5_000);
     for modifier in 0..=3 {
@@ -1051,6 +1052,37 @@ fn decision_25_and_50_busy_is_set_and_only_by_these() {
     assert_eq!(offset_after(0x7300), -1);
     assert_eq!(offset_after(0x0000), 0);
     assert_eq!(offset_after(0x1000), 0);
+}
+
+#[test]
+fn request_1_a_seek_to_where_the_heads_are_takes_no_time() {
+    let mut b = rich_bench();
+    assert_eq!(b.word(0x0000), 0);
+    assert!(command_complete(b.d(2)));
+    assert_eq!(b.word(0x0004), 0); // taken with no wait
+    assert_eq!((b.d(2).cylinder, b.d(2).busy), (4, 128));
+    b.a(6, 128, 0);
+    // The offset goes back, without settling.
+    assert_eq!(b.word(0x7300), 0);
+    b.a(6, 250, 0);
+    assert_eq!(b.d(2).offset, -1);
+    assert_eq!(b.word(0x0004), 0);
+    assert_eq!((b.d(2).cylinder, b.d(2).offset, b.d(2).busy), (4, 0, 0));
+    assert_eq!(b.ask(0x2000), 0);
+    // One cylinder away it settles, and a word with no wait is bit 6.
+    assert_eq!(b.word(0x0003), 0);
+    assert_eq!((b.d(2).busy, b.d(2).latched), (107, 0));
+    assert_eq!(b.a(5, 1, 0), 5);
+    assert_eq!(b.d(2).latched, B6);
+    // Recalibrate keeps its time at cylinder 0.
+    let mut home = fresh_drive(rich(2, false), 0);
+    plain_word(&mut home, with_parity(0x1000));
+    assert_eq!(home.busy, 5_000);
+    // On a busy drive the time is set to 0, like any other.
+    let mut busy = starting_with_word(with_parity(0x0004));
+    busy.dm(2).motor = Motor::Up;
+    assert_eq!(busy.a(5, 0, 0), 0);
+    assert_eq!((busy.d(2).cylinder, busy.d(2).busy), (4, 0));
 }
 
 /// Is this word's fault bit 5 on this drive? Written out apart from the

@@ -145,7 +145,7 @@ struct esdi_shape {
 
 /* Microseconds. */
 struct esdi_times {
-    uint32_t settle;                         /* up to 60,000 */
+    uint32_t settle;                         /* up to 60,000; not spent where a seek finds the heads there already */
     uint32_t step;                           /* a cylinder, up to 1,000 */
     uint32_t head_switch;                    /* up to 60,000 */
     uint32_t recalibrate, start, diagnostic; /* up to 30,000,000 each */

@@ -22,9 +22,9 @@ distanceOf from to = record { 0 = (to .0 - from .0) + (from .0 - to .0) }
 abbrev pub heldIn32 : ℕ → ℕ
 heldIn32 n = if leb n 4_294_967_295 then n else 4_294_967_295
 
--- "busy = settle + step × distance"
+-- request 1: "0 for distance 0 and .. settle + step × distance otherwise"
 unfoldable pub seekTime : Times → Distance → Micros
-seekTime t distance = record { 0 = heldIn32 (t .settle .0 + t .step .0 * distance .0) }
+seekTime t distance = record { 0 = if eqb (distance .0) 0 then 0 else heldIn32 (t .settle .0 + t .step .0 * distance .0) }
 
 -- "A starting motor is up when its busy timer reaches 0, at once if the start time is 0."
 abbrev pub motorFor : ℕ → Micros → ℕ
@@ -41,7 +41,7 @@ home = record { cylinder = record { 0 = 0 }; offset = 0; lost = 0 }
 abbrev pub homedOf : Body → Body
 homedOf b = with-arm home b
 
--- "The cylinder changes at once.": "offset 0; busy = settle + step × distance"
+-- "The cylinder changes at once.": "offset 0; busy = .." the seek time
 abbrev pub seekOf : Times → Cylinder → Body → Body
 seekOf t to b =
     busyFor (seekTime t (distanceOf (b .arm .cylinder) to))

@@ -39,10 +39,13 @@ fn distance(from: Cylinder, to: Cylinder) -> Distance
     Distance(to.0 - from.0)
 }
 
-// A distance becomes a time here alone; a timer holds no more than 32 bits.
+// A distance becomes a time here alone, and no distance no time; a timer holds no more than 32 bits.
 fn seek_time(t: Times, distance: Distance) -> Micros
     ensures { λ r. ⌜ r ≡ seekTime t distance ⌝ }
 {
+    if distance.0 == 0 {
+        return Micros(0);
+    }
     let whole = t.settle.0 as u64 + t.step.0 as u64 * distance.0 as u64;
     if whole > 4_294_967_295 {
         return Micros(4_294_967_295);

@@ -1,3 +1,4 @@
 pub mod WordLaws
 pub mod WordLimits
+pub mod SeekHere
 pub mod Worked

@@ -1,3 +1,4 @@
 pub mod Rows
 pub mod Parity
 pub mod Lawful
+pub mod SeekWord
