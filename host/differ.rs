@@ -140,8 +140,17 @@ fn pass(dice: &mut Dice, events: &mut Vec<Event>) {
     events.push((6, a, 0));
 }
 
+/// A size for command 9: any, or one at the edge of what a fitted drive's gaps fill.
+fn some_size(dice: &mut Dice, fitted: &[twin::Profile]) -> u32 {
+    if fitted.is_empty() || dice.one_in(2) {
+        return dice.between(150, 4_095);
+    }
+    let p = &fitted[dice.upto(fitted.len() as u32 - 1) as usize];
+    (twin::gaps(p) as u32 + dice.upto(2)).saturating_sub(1)
+}
+
 /// A word's seventeen bits, most with their odd parity.
-fn some_word(dice: &mut Dice) -> u32 {
+fn some_word(dice: &mut Dice, fitted: &[twin::Profile]) -> u32 {
     let word = match dice.upto(8) {
         // a seek, most of them near
         0 => {
@@ -154,7 +163,7 @@ fn some_word(dice: &mut Dice) -> u32 {
         4 => dice.pick(&[0x5000, 0x5000, 0x5200, 0x5300]), // control
         5 => 0x7000 | dice.upto(3) << 8,              // offset
         6 => 0x8000,                                  // diagnostics
-        7 => 0x9000 | dice.between(150, 4_095),       // bytes per sector
+        7 => 0x9000 | some_size(dice, fitted),        // bytes per sector
         _ => dice.upto(65_535),
     } as u16;
     let whole = twin::with_parity(word);
@@ -173,8 +182,8 @@ fn wait(dice: &mut Dice, events: &mut Vec<Event>) {
 }
 
 /// A word sent, most of them whole, and its response fetched.
-fn send(dice: &mut Dice, events: &mut Vec<Event>) {
-    let word = some_word(dice);
+fn send(dice: &mut Dice, fitted: &[twin::Profile], events: &mut Vec<Event>) {
+    let word = some_word(dice, fitted);
     let bits = if dice.one_in(8) { dice.upto(16) } else { 17 };
     for i in 0..bits {
         events.push((4, word >> (16 - i) & 1, 0));
@@ -259,7 +268,7 @@ fn some_events(dice: &mut Dice, fitted: &[twin::Profile]) -> Vec<Event> {
             2 => events.push((1, dice.pick(&[0, 0, 0, 1, 1, 2, 15, 16]), 0)),
             3 | 4 => line(dice, &mut events),
             5 | 6 | 7 => pass(dice, &mut events),
-            8..=11 => send(dice, &mut events),
+            8..=11 => send(dice, fitted, &mut events),
             12..=15 => cells(dice, &mut events),
             16 => events.push((8, slot(dice), dice.between(0, 4))),
             17 => {
@@ -431,8 +440,9 @@ fn other_length(dice: &mut Dice, pair: &Pair) -> Option<u8> {
 }
 
 /// A word at once, as the twin's plain word rules.
-fn word_at_once(dice: &mut Dice, pair: &Pair) -> bool {
-    let (slot, word) = (dice.pick(&[0, 1, 2, 3, 4, 5, 6, 7, 8]), if dice.one_in(20) { dice.between(131_072, 200_000) } else { some_word(dice) });
+fn word_at_once(dice: &mut Dice, fitted: &[twin::Profile], pair: &Pair) -> bool {
+    let slot = dice.pick(&[0, 1, 2, 3, 4, 5, 6, 7, 8]);
+    let word = if dice.one_in(20) { dice.between(131_072, 200_000) } else { some_word(dice, fitted) };
     let mut record = pair.record;
     let ours = esdi::word(&mut record, slot, word);
     let mut chain = pair.chain;
@@ -564,7 +574,7 @@ fn run() -> bool {
                     Some(answer) => *changed.entry(answer).or_insert(0u64) += 1,
                     None => return false,
                 }
-                if !word_at_once(&mut dice, &pair) {
+                if !word_at_once(&mut dice, &profiles, &pair) {
                     return false;
                 }
                 match other_length(&mut dice, &pair) {

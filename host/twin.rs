@@ -1154,13 +1154,24 @@ fn option_present(p: &Profile, option: OptionNeeded) -> bool {
     }
 }
 
-/// "seek, bits 11..0 | cylinder < cylinders"; "set bytes per sector, bits
-/// 11..0 | hard sectored, 162..4,095"; "so are non-zero bits 7..0 outside 0
-/// and 9".
+/// Document 02, request 8: "gap bytes + 2 × sync bytes".
+pub fn gaps(p: &Profile) -> u16 {
+    p.gap as u16 + 2 * p.sync as u16
+}
+
+/// "set bytes per sector, bits 11..0 | hard sectored, 162..4,095". Document
+/// 02, request 8: "Command 9 must now leave room: the size must be greater
+/// than gap bytes + 2 × sync bytes.", "tried after the 162 to 4,095 range".
+fn size_settable(p: &Profile, size: u16) -> bool {
+    162 <= size && size > gaps(p)
+}
+
+/// "seek, bits 11..0 | cylinder < cylinders"; "so are non-zero bits 7..0
+/// outside 0 and 9".
 fn parameter_valid(p: &Profile, command: Command, word: u16) -> bool {
     match command {
         Command::Seek => parameter_of(word) < p.cylinders,
-        Command::SetBytesPerSector => 162 <= parameter_of(word),
+        Command::SetBytesPerSector => size_settable(p, parameter_of(word)),
         _ => word & 255 == 0,
     }
 }

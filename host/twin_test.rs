@@ -1085,6 +1085,39 @@ fn request_1_a_seek_to_where_the_heads_are_takes_no_time() {
     assert_eq!((busy.d(2).cylinder, busy.d(2).busy), (4, 0));
 }
 
+#[test]
+fn request_8_a_size_that_is_set_leaves_room_for_its_gaps() {
+    // The pack brings sectors of 162 bytes, and gaps that fill 255 + 2 × 255.
+    let tight = Profile { sector: 162, gap: 255, sync: 255, ..rich(2, false) };
+    let mut b = Bench::of(&[tight]); // still read
+    assert_eq!(b.a(0, 2, 0), 0);
+    b.clear();
+    assert_eq!((b.ask(0x3500), b.ask(0x3600)), (162, 25)); // and quoted
+    // No size that the gaps fill is set, not even the one in force.
+    for size in [162, 500, 764, 765].iter() {
+        assert_eq!(b.word(0x9000 | size), 5);
+        assert_eq!((b.d(2).sector, b.d(2).latched), (162, B5));
+        b.clear();
+    }
+    assert_eq!(b.word(0x9000 | 766), 0);
+    assert_eq!((b.ask(0x3500), b.ask(0x3600)), (766, 5));
+    assert_eq!(b.word(0x9000 | 765), 5); // so it can't go back
+    assert_eq!(b.d(2).sector, 766);
+    // The gap counts once and the sync twice; below 162 the range decides.
+    let least = |gap: u8, sync: u8| {
+        let p = Profile { gap, sync, ..rich(2, false) };
+        (0..=4_095).find(|size| valid_command(&p, 0x9000 | size).is_some())
+    };
+    assert_eq!(least(0, 0), Some(162));
+    assert_eq!(least(255, 0), Some(256));
+    assert_eq!(least(0, 255), Some(511));
+    assert_eq!(least(1, 80), Some(162)); // 161 bytes of gaps
+    assert_eq!(least(2, 80), Some(163));
+    assert_eq!(least(255, 255), Some(766));
+    // A soft sectored drive has no size to set, whatever its gaps.
+    assert_eq!(valid_command(&soft(3), 0x9000 | 4_095), None);
+}
+
 /// Is this word's fault bit 5 on this drive? Written out apart from the
 /// twin's table.
 fn invalid_by_the_paper(p: &Profile, word: u16) -> bool {
@@ -1101,7 +1134,7 @@ fn invalid_by_the_paper(p: &Profile, word: u16) -> bool {
         || (code == 5 && (modifier == 2 || modifier == 3) && motor_option && low == 0)
         || (code == 7 && modifier <= 3 && offset_option && low == 0)
         || (code == 8 && modifier == 0 && low == 0)
-        || (code == 9 && hard && parameter >= 162);
+        || (code == 9 && hard && parameter >= 162 && parameter > p.gap as u16 + p.sync as u16 + p.sync as u16);
     !valid
 }
 
@@ -1763,7 +1796,9 @@ fn random_word17(dice: &mut Dice, d: &Drive) -> u32 {
         11 => 0x5300,
         12 | 13 => 0x7000 | dice.upto(4) << 8,
         14 => 0x8000,
-        15 => 0x9000 | dice.between(150, 4_095),
+        // any size, or one at the edge of the drive's gaps
+        15 if dice.one_in(2) => 0x9000 | dice.between(150, 4_095),
+        15 => 0x9000 | (gaps(&d.profile) as u32 + dice.upto(2)).saturating_sub(1),
         16 => dice.upto(15) << 12 | dice.upto(15) << 8,
         17 => dice.upto(15) << 12 | dice.upto(3) << 8 | dice.pick(&[0, 0, 1, 128]),
         _ => dice.upto(65_535),

@@ -156,7 +156,7 @@ struct esdi_profile {
     uint8_t slot; /* 1..7 */
     uint8_t vendor;
     uint16_t general; /* a sum of esdi_general's */
-    uint8_t gap, sync;
+    uint8_t gap, sync; /* bytes; a word can set no sector size that gap + 2 x sync fill */
     uint16_t write_protected; /* 0 or 1 */
     struct esdi_shape shape;
     struct esdi_times times;
@@ -176,7 +176,7 @@ struct esdi_body {
     uint8_t offset; /* an esdi_offset */
     uint8_t lost;   /* 1 where the position is lost */
     uint16_t latched; /* a sum of esdi_status's first eight */
-    uint16_t sector;  /* the size now in force */
+    uint16_t sector;  /* the size now in force: the pack's, or the last that a word set */
     uint8_t head;
     uint8_t motor; /* an esdi_motor */
     uint8_t reading, writing;

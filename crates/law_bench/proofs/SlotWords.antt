@@ -1,6 +1,7 @@
--- A word given to a slot keeps a sound chain sound, and alters nothing but the state of that slot.
+-- A word given to a slot keeps a sound chain sound, alters nothing but the state of that slot, and sets no size that its gaps fill.
 use mathlib.Core.Path.{_≡_, refl}
 use mathlib.Core.Bool.{true, not}
+use mathlib.Core.Logic.{inl}
 use Prim.Native.Nat.{ℕ}
 use lib.Dec.{ltb, eqb}
 use borrow.Author.Tests.{not-false}
@@ -10,6 +11,7 @@ use Rattle.handshake.specs.Transfer.{largest}
 use Rattle.pack_read.specs.Packs.{fittedB}
 use Rattle.drive_record.specs.declared.State.{State}
 use Rattle.word_rules.specs.Rules.{plainOf}
+use Rattle.word_rules.proofs.SectorRoom.{plain-sized}
 use Rattle.chain_record.specs.declared.Chain.{Chain}
 use Rattle.chain_record.specs.Record.{slotPack, slotState}
 use Rattle.chain_apply.specs.Apply.{changedOf, applied}
@@ -18,6 +20,7 @@ use Rattle.chain_sound.proofs.SoundSlots.{sound}
 use Rattle.law_drive.proofs.WordRules.{plain-keeps}
 use Rattle.law_chain.proofs.Drives.{put-other, slot-valid, slot-sound}
 use Rattle.law_chain.proofs.Kept.{one-put}
+use Rattle.law_chain.proofs.Sizes as sizes
 use Rattle.c_pack.specs.declared.Coded.{Coded}
 use Rattle.c_word.specs.Words.{stateIn, sentOf, wordAt, slotWord}
 
@@ -61,3 +64,11 @@ module _ (c : Chain) (slot n : ℕ) where
   pub word-only : OnlySlot slot c (slotWord c slot n .chain)
   word-only =
       either-left (OnlySlot slot c) (record { packs = refl; lines = refl; long = refl; others = λ k ne. refl }) (λ h f. put-only)
+
+  put-sized : chainSoundB c ≡ true → fittedB (slotPack (c .packs) slot) ≡ true → sizes.AllSized c (stateIn c slot given .states)
+  unfolding applied changedOf
+  put-sized h f = sizes.one-put c h slot given f (plain-sized (slotPack (c .packs) slot .profile) (slotState (c .states) slot) n)
+
+  -- request 8
+  pub slot-sized : sizes.AllSized c (slotWord c slot n .chain .states)
+  slot-sized = either-left (λ (x : Chain). sizes.AllSized c (x .states)) (λ k f. inl refl) put-sized

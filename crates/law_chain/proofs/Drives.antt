@@ -4,7 +4,7 @@ use mathlib.Core.Bool.{Bool, true, false, not}
 use mathlib.Core.List.{List, [], _∷_}
 use Prim.Native.Nat.{ℕ, zero, suc, _+_, _-_, _≤_, _<_}
 use native.Mathlib.Omega.{arith}
-use borrow.Author.Tests.{eqb-true, eq-eqb, le-leb, not-false}
+use borrow.Author.Tests.{eqb-true, eqb-false, eq-eqb, le-leb, not-false}
 use lib.Dec.{eqb}
 use lib.ListN.{length, getD, set, length-set}
 use lib.Seq.{getD-set-same, getD-set-other, set-getD}
@@ -66,7 +66,7 @@ put-back states slot = by (slotB slot)
     by false = refl
 
 -- no pack stands past the end of the packs
-there : (packs : List Pack) (i : ℕ) → getD packs i noPack .fitted ≡ 1 → i < length packs
+pub there : (packs : List Pack) (i : ℕ) → getD packs i noPack .fitted ≡ 1 → i < length packs
 there [] i f = absurd (omega arith)
 there (p ∷ packs) zero f = omega arith
 there (p ∷ packs) (suc i) f = omega (arith, there packs i f)
@@ -117,6 +117,19 @@ module _ (c : Chain) (h : chainSoundB c ≡ true) where
         state-there k (mapWith g (c .packs) (c .states)) is-slot
         ∙ rw (pack-there k (c .packs) is-slot, state-there k (c .states) is-slot)
         (map-at g (c .packs) (c .states) (k - 1) noPack blankState pack-room slot-room)
+
+  -- a state put into a slot of some states: what holds there of it, and elsewhere of those, holds of each
+  module _ (P : ℕ → State → Type 0) (states : List State) (long : length (c .states) ≤ length states)
+      (slot : ℕ) (s : State) (f : fittedB (slotPack (c .packs) slot) ≡ true) (new : P slot s) where
+    same-slot : (k : ℕ) → k ≡ slot → P k (slotState (putOf states slot s) k)
+    same-slot k e = rw (e, put-same states slot s (is-slot slot f) (omega (arith, slot-room slot f))) new
+
+    pub put-in : (k : ℕ) → ((k ≡ slot → ⊥) → P k (slotState states k)) → P k (slotState (putOf states slot s) k)
+    put-in k other = by (eqb k slot) refl
+      where
+        by : (t : Bool) → eqb k slot ≡ t → P k (slotState (putOf states slot s) k)
+        by true q = same-slot k (eqb-true _ _ q)
+        by false q = rw (put-other states slot s k (eqb-false _ _ q)) (other (eqb-false _ _ q))
 
   -- a pack that is fitted stands in a slot
   module _ (i : ℕ) (f : getD (c .packs) i noPack .fitted ≡ 1) where

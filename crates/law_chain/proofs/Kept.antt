@@ -42,11 +42,11 @@ use Rattle.chain_others.specs.Passing.{passEvent}
 use Rattle.chain_decide.specs.Decide.{decideOf}
 use Rattle.chain_apply.specs.Apply.{putOf, passSlot, changedOf, applied}
 use Rattle.chain_sound.specs.SoundChain.{chainSoundB}
-use Rattle.chain_sound.proofs.SoundSlots.{sound, slot-of}
+use Rattle.chain_sound.proofs.SoundSlots.{sound}
 use Rattle.chain_judge.specs.Judge.{allowedOf, decodedOf, judgedOf}
 use Rattle.chain_step.specs.Step.{stepOf}
 use Rattle.chain_decide.proofs.Walk.{Cases, walk, enteredOf}
-use Rattle.law_chain.proofs.Drives.{put-same, put-other, put-long, enough, slot-valid, slot-room, slot-sound, slot-mapped, slots-sound}
+use Rattle.law_chain.proofs.Drives.{put-long, put-in, enough, slot-valid, slot-sound, slot-mapped, slots-sound}
 use Rattle.law_chain.proofs.Ranges.{InRange, decoded-range, lines-kept}
 
 -- no drive looks at the data line but on a rise of request
@@ -80,19 +80,6 @@ module _ (c : Chain) (h : chainSoundB c ≡ true) where
   bystander : (m : Lines) (k : ℕ) → Fitted k → (k ≡ l .select → ⊥) → (k ≡ m .select → ⊥) → At m k (of k)
   bystander m k f ne nm = rw (ne-eqb (m .select) k (λ e. nm (sym e))) (keeps.elsewhere _ (slot-valid c h k f) l (of k) (away k f ne) m)
 
-  -- a state put into a slot of some states
-  module _ (m : Lines) (states : List State) (long : length (c .states) ≤ length states) (slot : ℕ) (s : State) (fs : Fitted slot) (new : At m slot s) where
-    same-slot : (k : ℕ) → k ≡ slot → At m k (slotState (putOf states slot s) k)
-    same-slot k e =
-        rw (e, put-same states slot s (slot-of slot (c .packs) (eqb-true _ _ fs)) (omega (arith, slot-room c h slot fs))) new
-
-    put-in : (k : ℕ) → ((k ≡ slot → ⊥) → At m k (slotState states k)) → At m k (slotState (putOf states slot s) k)
-    put-in k other = by (eqb k slot) refl
-      where
-        by : (t : Bool) → eqb k slot ≡ t → At m k (slotState (putOf states slot s) k)
-        by true q = same-slot k (eqb-true _ _ q)
-        by false q = rw (put-other states slot s k (eqb-false _ _ q)) (other (eqb-false _ _ q))
-
   abbrev with : List State → Lines → Chain
   with states m = record { packs = c .packs; states = states; lines = m; length = c .length }
 
@@ -101,7 +88,7 @@ module _ (c : Chain) (h : chainSoundB c ≡ true) where
       → ((k : ℕ) → Fitted k → (k ≡ slot → ⊥) → At m k (of k)) → chainSoundB (with (putOf (c .states) slot s) m) ≡ true
   one-put m lm slot s fs new others =
       slots-sound c h m (putOf (c .states) slot s) lm (omega (arith, put-long (c .states) slot s, enough c h))
-      (λ k f. put-in m (c .states) (omega arith) slot s fs new k (others k f))
+      (λ k f. put-in c h (At m) (c .states) (omega arith) slot s fs new k (others k f))
 
   -- the rules of the signals
   module _ (f : Fitted (l .select)) where
@@ -193,8 +180,8 @@ module _ (c : Chain) (h : chainSoundB c ≡ true) where
         let n = put-long (c .states) (l .select) left in
         slots-sound c h m (putOf states slot (enteredOf c slot .state)) (lines-kept (Select slot) l r (sound c h .lines))
         (omega (arith, put-long states slot (enteredOf c slot .state), enough c h))
-        (λ k f. put-in m states (omega arith) slot (enteredOf c slot .state) fs (entered-kept fs) k
-        (λ ne. put-in m (c .states) (omega arith) (l .select) left fl (left-kept fl) k (λ nl. bystander m k f nl ne)))
+        (λ k f. put-in c h (At m) states (omega arith) slot (enteredOf c slot .state) fs (entered-kept fs) k
+        (λ ne. put-in c h (At m) (c .states) (omega arith) (l .select) left fl (left-kept fl) k (λ nl. bystander m k f nl ne)))
 
   passed : (us : Micros) → chainSoundB (with (mapWith (passSlot us) (c .packs) (c .states)) l) ≡ true
   unfolding passSlot

@@ -10,3 +10,4 @@ pub mod FirstAnswer
 pub mod Answered
 pub mod Stepping
 pub mod Touched
+pub mod Sizes

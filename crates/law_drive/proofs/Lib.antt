@@ -10,4 +10,5 @@ pub mod SelectRules
 pub mod ConditionRules
 pub mod TimeRules
 pub mod WordRules
+pub mod SizeRules
 pub mod Keeps

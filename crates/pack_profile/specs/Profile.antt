@@ -1,5 +1,5 @@
--- What a pack's profile says of its medium, and what stands where no drive is.
-use Prim.Native.Nat.{ℕ, _*_, _<_}
+-- What a pack's profile says of its medium and of its sectors' gaps, and what stands where no drive is.
+use Prim.Native.Nat.{ℕ, _+_, _*_, _<_}
 use mathlib.Core.Path.{_≡_}
 use Rattle.pack_profile.specs.declared.Profile.{Profile}
 use Rattle.pack_profile.specs.declared.Shape.{Shape}
@@ -12,6 +12,10 @@ mediumOf s = s .cylinders .0 * s .heads .0 * s .track .0
 pub record Medium (s : Shape) (r : ℕ) : Type 0 where
   pub is : r ≡ mediumOf s
   pub most : r < 281_474_976_710_656
+
+-- request 8: "gap bytes + 2 × sync bytes"
+abbrev pub gapsOf : Profile → ℕ
+gapsOf p = p .gap + 2 * p .sync
 
 -- what stands where no drive is
 abbrev pub blankProfile : Profile

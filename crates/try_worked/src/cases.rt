@@ -14,6 +14,7 @@ use crate::drives::SOFT;
 use crate::drives::STARTING;
 use crate::drives::STOPPED;
 use crate::drives::SWITCHING;
+use crate::drives::WIDE;
 use crate::drives::WRITING;
 use crate::lines::carry_out;
 use crate::lines::send;
@@ -57,6 +58,17 @@ pub fn sector_sizes() {
     send(HARD, STOPPED, 0x9264);
     send(HARD, LOST, 0x9264);
     send(SOFT, FRESH, 0x90A2);
+}
+
+// Command 9 around what the gaps fill, 765 bytes; the pack's own 594 are quoted and can't be set.
+pub fn gaps() {
+    title(b"gaps");
+    each(WIDE, FRESH, &[0x3500, 0x3600, 0x3700, 0x3800]);
+    each(
+        WIDE,
+        FRESH,
+        &[0x90A1, 0x90A2, 0x91FF, 0x9252, 0x92FD, 0x92FE, 0x9FFF],
+    );
 }
 
 // The sixteen codes, modifier 0, bits 7..0 zero.

@@ -28,6 +28,9 @@ pub const BARE: u8 = 2;
 // A removable one, write protected, whose motor starts at once.
 pub const REMOVABLE: u8 = 3;
 
+// The same, with the widest gaps: they fill 255 + 2 x 255 bytes of a sector.
+pub const WIDE: u8 = 4;
+
 pub const FRESH: u8 = 0;
 
 pub const STOPPED: u8 = 1;
@@ -74,9 +77,17 @@ fn sector(drive: u8) -> u16 {
     }
 }
 
+fn gap(drive: u8) -> u8 {
+    match drive {
+        WIDE => 255,
+        _ => 16,
+    }
+}
+
 fn sync(drive: u8) -> u8 {
     match drive {
         BARE => 16,
+        WIDE => 255,
         _ => 14,
     }
 }
@@ -135,7 +146,7 @@ pub fn profile(drive: u8) -> Profile {
         slot: 1,
         vendor: 0x14,
         general: general(drive),
-        gap: 16,
+        gap: gap(drive),
         sync: sync(drive),
         protected: protected(drive),
         shape,

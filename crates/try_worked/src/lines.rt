@@ -40,6 +40,7 @@ fn drive_name(drive: u8) {
         drives::HARD => put(b"hard"),
         drives::SOFT => put(b"soft"),
         drives::BARE => put(b"bare"),
+        drives::WIDE => put(b"wide"),
         _ => put(b"removable"),
     }
 }

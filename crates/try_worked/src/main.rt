@@ -6,6 +6,7 @@ mod lines;
 fn main() {
     cases::configurations();
     cases::sector_sizes();
+    cases::gaps();
     cases::codes();
     cases::seeks();
     cases::neighbours();

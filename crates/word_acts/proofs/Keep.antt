@@ -12,6 +12,7 @@ use Rattle.counts.specs.declared.Micros.{Micros}
 use Rattle.counts.proofs.Tests.{both, each}
 use Rattle.counts.proofs.Choice.{by-test}
 use Rattle.pack_profile.specs.declared.Profile.{Profile}
+use Rattle.pack_profile.specs.Profile.{gapsOf}
 use Rattle.pack_profile.specs.General.{soft}
 use Rattle.pack_profile.specs.Valid.{sectorOk, validB}
 use Rattle.pack_profile.proofs.FieldRanges.{ranges}
@@ -35,7 +36,7 @@ Allowed p Stop = Unit {0}
 Allowed p Start = Unit {0}
 Allowed p (Offset code) = code ≤ 2
 Allowed p Diagnose = Unit {0}
-Allowed p (Sector size) = sectorOk (soft (p .general)) (size .0) ≡ true
+Allowed p (Sector size) = (sectorOk (soft (p .general)) (size .0) ≡ true) × (gapsOf p < size .0)
 
 module _ (p : Profile) (v : validB p ≡ true) (b : Body) (q : Parts p b) where
   abbrev armTests : List Bool

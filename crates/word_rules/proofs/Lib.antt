@@ -1,4 +1,5 @@
 pub mod WordLaws
 pub mod WordLimits
 pub mod SeekHere
+pub mod SectorRoom
 pub mod Worked

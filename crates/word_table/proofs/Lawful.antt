@@ -3,7 +3,7 @@ use mathlib.Core.Path.{_≡_, refl}
 use mathlib.Core.Bool.{Bool, true, false, not}
 use Prim.Native.Nat.{ℕ, _<_}
 use native.Mathlib.Omega.{arith}
-use lib.Dec.{eqb}
+use lib.Dec.{ltb, eqb}
 use borrow.Author.Tests.{ltb-true, eqb-true, not-true, not-false}
 use Rattle.counts.specs.Bytes.{bit}
 use Rattle.counts.specs.Choice.{if_then_else_}
@@ -11,16 +11,18 @@ use Rattle.counts.proofs.Tests.{both}
 use Rattle.counts.proofs.Choice.{by-test}
 use Rattle.counts.proofs.First.{every-at}
 use Rattle.pack_profile.specs.declared.Profile.{Profile}
+use Rattle.pack_profile.specs.Profile.{gapsOf}
 use Rattle.pack_profile.specs.General.{soft}
-use Rattle.pack_profile.specs.Valid.{sectorOk}
+use Rattle.pack_profile.specs.Valid.{hardSize}
 use Rattle.drive_record.specs.declared.Body.{Body}
+use Rattle.word_acts.specs.declared.Act.the-variants.{Sector}
 use Rattle.word_acts.proofs.Keep.{Allowed}
 use Rattle.word_table.specs.declared.table.Row.{Row}
 use Rattle.word_table.specs.declared.Effect.{Effect}
 use Rattle.word_table.specs.declared.Effect.the-variants.{Fails, Status, Configuration, Does}
 use Rattle.word_table.specs.Word.{sixteenOf, codeOf, modifierOf, bits11to0, oddB}
 use Rattle.word_table.specs.Table.{hard, seek, recalibrate, status, configuration, clear, stop, start, restore, plus, minus, diagnose, sector, invalidRow, rows, rowOf, foundOf}
-use Rattle.word_table.specs.Effect.{optionB, operandB, wordValidB, blockedB, actOf, orderOf, effectOf}
+use Rattle.word_table.specs.Effect.{optionB, sizeB, operandB, wordValidB, blockedB, actOf, orderOf, effectOf}
 
 abbrev pub Lawful : Profile → Effect → Type 0
 Lawful p (Fails value) = (value < 512) × (bit value 2 ≡ 0)
@@ -48,9 +50,11 @@ module _ (p : Profile) (r : Row) (w : ℕ) (table : hardB r ≡ true) (v : wordV
   unfolding optionB
   hard-sectored e = not-true (soft (p .general)) (rw (eqb-true (r .option) hard (rw e at table)) at (parts .0))
 
-  sector-lawful : eqb (r .act) seek ≡ false → eqb (r .act) sector ≡ true → sectorOk (soft (p .general)) (bits11to0 w) ≡ true
-  unfolding operandB
-  sector-lawful d e = rw (hard-sectored e) (rw (d, e) at (parts .1))
+  sector-lawful : eqb (r .act) seek ≡ false → eqb (r .act) sector ≡ true → Allowed p (Sector (record { 0 = bits11to0 w }))
+  unfolding operandB sizeB
+  sector-lawful d e =
+      let size = both (hardSize (bits11to0 w)) (ltb (gapsOf p) (bits11to0 w)) (rw (d, e) at (parts .1)) in
+      (rw (hard-sectored e) (size .0), ltb-true _ _ (size .1))
 
   act-lawful : Lawful p (actOf (r .act) w)
   unfolding actOf

@@ -4,6 +4,7 @@ use mathlib.Core.Bool.{Bool, true, _&&_, _||_, not}
 use lib.Dec.{ltb, leb, eqb}
 use Rattle.counts.specs.Choice.{if_then_else_}
 use Rattle.pack_profile.specs.declared.Profile.{Profile}
+use Rattle.pack_profile.specs.Profile.{gapsOf}
 use Rattle.pack_profile.specs.General.{offsetOption, motorOption, soft}
 use Rattle.pack_profile.specs.Valid.{hardSize}
 use Rattle.drive_record.specs.declared.Body.{Body}
@@ -23,14 +24,16 @@ optionB p option =
     else if eqb option hard then not (soft (p .general))
     else true
 
--- "set bytes per sector": "162..4,095"
-abbrev pub sizeB : ℕ → Bool
-sizeB size = hardSize size
+-- "set bytes per sector"
+unfoldable pub sizeB : Profile → ℕ → Bool
+sizeB p size =
+    hardSize size  -- "162..4,095"
+    && ltb (gapsOf p) size  -- request 8: "the size must be greater than ..", "tried after the 162 to 4,095 range"
 
 unfoldable pub operandB : Profile → ℕ → ℕ → Bool
 operandB p act w =
     if eqb act seek then ltb (bits11to0 w) (p .shape .cylinders .0)  -- "cylinder < cylinders"
-    else if eqb act sector then sizeB (bits11to0 w)
+    else if eqb act sector then sizeB p (bits11to0 w)
     else eqb (w % 256) 0  -- "so are non-zero bits 7..0 outside 0 and 9"
 
 abbrev pub wordValidB : Profile → Row → ℕ → Bool

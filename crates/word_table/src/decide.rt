@@ -10,6 +10,7 @@ use drive_record::status;
 use pack_profile::Profile;
 use word_acts::Act;
 ghost use mathlib.Core.Path.{_≡_};
+ghost use Rattle.pack_profile.specs.Profile.{gapsOf};
 ghost use Rattle.word_table.specs.Word.{sixteenOf, codeOf, modifierOf, bits11to0, oddB};
 ghost use Rattle.word_table.specs.Effect.{optionB, sizeB, operandB, actOf, blockedB, orderOf, effectOf};
 
@@ -56,11 +57,18 @@ fn option_met(p: Profile, option: u8) -> bool
     }
 }
 
-// The sector sizes that may be set.
-fn size_ok(size: u16) -> bool
-    ensures { λ r. ⌜ r ≡ sizeB size ⌝ }
+// What the gaps of a sector fill: its header and its data have a sync field each.
+fn gaps(p: Profile) -> u16
+    ensures { λ r. ⌜ r ≡ gapsOf p ⌝ }
 {
-    pack_profile::valid::hard_size(size)
+    p.gap as u16 + 2 * p.sync as u16
+}
+
+// The sector sizes that may be set: a drive can't format one that its gaps fill.
+fn size_ok(p: Profile, size: u16) -> bool
+    ensures { λ r. ⌜ r ≡ sizeB p size ⌝ }
+{
+    pack_profile::valid::hard_size(size) & (gaps(p) < size)
 }
 
 fn operand_ok(p: Profile, act: u8, w: u16) -> bool
@@ -68,7 +76,7 @@ fn operand_ok(p: Profile, act: u8, w: u16) -> bool
 {
     match act {
         Row::SEEK => number(w) < p.shape.cylinders.0,
-        Row::SECTOR => size_ok(number(w)),
+        Row::SECTOR => size_ok(p, number(w)),
         _ => w % 256 == 0,
     }
 }
