@@ -1,4 +1,4 @@
--- `word_table::decide::gaps` meets its contract: two bytes each, so that no sum is cut.
+-- `word_table::decide::gaps` meets its contract: gap and sync are widened first, so no sum is cut.
 use borrow.Author.Needs.{needs}
 use native.Mathlib.Omega.{arith}
 use Rattle.word_table.proofs.decide.gaps.Statement.{statement}
