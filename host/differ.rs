@@ -209,7 +209,7 @@ fn at_once(word: u16, events: &mut Vec<Event>) {
     }
 }
 
-/// Control 0: no latched bit stands, so that writing can begin.
+/// Control 0: no latched bit stands, so that writing can begin, but bit 1 of a write fault that stands.
 fn clear(events: &mut Vec<Event>) {
     at_once(0x5000, events);
 }
@@ -234,6 +234,10 @@ fn cells(dice: &mut Dice, events: &mut Vec<Event>) {
 /// A drive made ready as a host does it, then many cells under one gate.
 fn track(dice: &mut Dice, slot: u32, events: &mut Vec<Event>) {
     events.extend([(2, 0, 0), (3, 0, 0), (5, 0, 0), (0, 0, 0), (0, slot, 0), (1, dice.pick(&[0, 0, 0, 1]), 0)]);
+    // a write fault that stands is seldom left standing
+    if !dice.one_in(4) {
+        events.push((8, slot, 4));
+    }
     clear(events);
     if dice.one_in(3) {
         events.extend([(6, 65_535, 0), (6, 65_535, 0)]);
@@ -270,7 +274,7 @@ fn some_events(dice: &mut Dice, fitted: &[twin::Profile]) -> Vec<Event> {
             5 | 6 | 7 => pass(dice, &mut events),
             8..=11 => send(dice, fitted, &mut events),
             12..=15 => cells(dice, &mut events),
-            16 => events.push((8, slot(dice), dice.between(0, 4))),
+            16 => events.push((8, slot(dice), dice.pick(&[0, 1, 1, 2, 3, 4, 4, 5]))),
             17 => {
                 clear(&mut events);
                 cells(dice, &mut events);
@@ -387,7 +391,7 @@ fn changed_record(dice: &mut Dice, pair: &Pair) -> Option<u8> {
             _ => dice.upto(255) as u8,
         };
     }
-    let event = (dice.upto(8), dice.pick(&[0, 1, 1, 2, 7, 100]), dice.pick(&[0, 0, 0, 1, 3]));
+    let event = (dice.upto(8), dice.pick(&[0, 1, 1, 2, 7, 100]), dice.pick(&[0, 0, 0, 1, 3, 4]));
     let mut file = pair.file.clone();
     let before = record;
     let ours = esdi::event(&mut record, &mut file, event.0, event.1, event.2);

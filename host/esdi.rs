@@ -71,6 +71,7 @@ pub struct Body {
     pub motor: u8,
     pub reading: u8,
     pub writing: u8,
+    pub standing: u32,
 }
 
 #[repr(C)]
@@ -231,6 +232,7 @@ fn state_of(d: &twin::Drive) -> State {
             },
             reading: d.reading as u8,
             writing: d.writing as u8,
+            standing: d.standing as u32,
         },
         transfer: Transfer {
             waiting: d.waiting,
@@ -323,6 +325,7 @@ fn drive_of(p: &Pack, s: &State) -> Option<twin::Drive> {
         sector: b.sector,
         reading: flag(b.reading)?,
         writing: flag(b.writing)?,
+        standing: flag(b.standing)?,
         transfer: match w.way {
             0 => twin::Transfer::None,
             1 => twin::Transfer::Taking,

@@ -63,6 +63,7 @@ static void state(int i) {
     STATE(body.motor, 27);
     STATE(body.reading, 28);
     STATE(body.writing, 29);
+    STATE(body.standing, 16777230);
     STATE(transfer.waiting, 16777225);
     STATE(transfer.bits, 16777226);
     STATE(transfer.response, 16777227);
@@ -132,7 +133,14 @@ static void events(void) {
     for (uint32_t b = ESDI_CONDITION_WRITE_FAULT; b <= ESDI_CONDITION_MEDIUM_CHANGED; b++)
         IS(esdi_event(&chain, file, sizeof file, ESDI_CONDITION, 1, b), ESDI_TAKEN);
     IS(body->latched, ESDI_STATUS_WRITE_FAULT | ESDI_STATUS_SEEK_FAULT | ESDI_STATUS_MEDIUM_CHANGED);
+    IS(body->standing, 1);
     sent(0x5000);
+    IS(body->latched, ESDI_STATUS_WRITE_FAULT);
+    IS(esdi_event(&chain, file, sizeof file, ESDI_CONDITION, 1, ESDI_CONDITION_WRITE_FAULT_ENDS), ESDI_TAKEN);
+    IS(body->standing, 0);
+    IS(body->latched, ESDI_STATUS_WRITE_FAULT);
+    sent(0x5000);
+    IS(body->latched, 0);
     IS(esdi_event(&chain, file, sizeof file, ESDI_SELECT, 1, 0), ESDI_TAKEN);
     IS(ESDI_ANSWER(esdi_lines(&chain)), ESDI_TAKEN);
     IS(ESDI_VALUE(esdi_lines(&chain)), ESDI_LINE_SELECTED | ESDI_LINE_READY | ESDI_LINE_COMPLETE);

@@ -56,7 +56,7 @@ static int drive_ok(const struct esdi_profile *p, const struct esdi_state *s, co
     if (b->cylinder >= p->shape.cylinders || b->offset > 2 || b->lost > 1 || b->busy > 30000000 ||
         b->head_timer > 60000 || b->latched > 511 || b->latched & 4 || !sector_ok(p->general, b->sector) ||
         b->head > 15 || b->motor > ESDI_MOTOR_UP || (b->motor == ESDI_MOTOR_STARTING && !b->busy) || b->reading > 1 ||
-        b->writing > 1)
+        b->writing > 1 || b->standing > 1 || (b->standing && !(b->latched & ESDI_STATUS_WRITE_FAULT)))
         return 0;
     if (l->select == p->slot)
         return selected_ok(p, s, l);

@@ -441,6 +441,8 @@ pub struct Drive {
     pub sector: u16,
     pub reading: bool,
     pub writing: bool,
+    /// A write fault stands.
+    pub standing: bool,
     pub transfer: Transfer,
     /// Bits taken while taking, bits put out while responding.
     pub count: u8,
@@ -484,6 +486,7 @@ pub fn fresh_drive(profile: Profile, place: usize) -> Drive {
         sector: profile.sector,
         reading: false,
         writing: false,
+        standing: false,
         transfer: Transfer::None,
         count: 0,
         bits: 0,
@@ -730,16 +733,21 @@ fn microseconds_pass(chain: &mut Chain, microseconds: u32) -> Did {
 }
 
 /// Kind 8. "Condition 1 latches bit 1; 2 latches bit 4, loses the position
-/// and ends reading; 3 latches bit 0."
+/// and ends reading; 3 latches bit 0." Document 02, request 3: "Condition 1
+/// now begins a fault and a new condition 4 ends it."
 fn condition_in_slot(d: &mut Drive, condition: u32) {
     match condition {
-        1 => latch(d, WRITE_FAULT),
+        1 => {
+            latch(d, WRITE_FAULT);
+            d.standing = true;
+        }
         2 => {
             latch(d, SEEK_FAULT);
             d.lost = true;
             d.reading = false;
         }
-        _ => latch(d, MEDIUM_CHANGED),
+        3 => latch(d, MEDIUM_CHANGED),
+        _ => d.standing = false,
     }
 }
 
@@ -1264,7 +1272,7 @@ fn effect(d: &mut Drive, command: Command, word: u16) -> Outcome {
         Command::RequestConfiguration => {
             return Outcome::Response(configuration(d, modifier_of(word)))
         }
-        Command::ClearLatched => d.latched = 0, // "0 clears latched bits"
+        Command::ClearLatched => clear_latched(d),
         Command::StopMotor => stop_motor(d),
         Command::StartMotor => start_motor(d),
         Command::RestoreOffset => track_offset(d, 0), // "0, 1 restore"
@@ -1274,6 +1282,13 @@ fn effect(d: &mut Drive, command: Command, word: u16) -> Outcome {
         Command::SetBytesPerSector => d.sector = parameter_of(word), // "sector size"
     }
     Outcome::Done
+}
+
+/// "0 clears latched bits". Document 02, request 3: "While it stands, control
+/// 0 clears the other latched bits and leaves bit 1."
+fn clear_latched(d: &mut Drive) {
+    let left = if d.standing { 1 << WRITE_FAULT } else { 0 };
+    d.latched &= left;
 }
 
 /// "Distance is the displacement without its sign."
@@ -1460,6 +1475,12 @@ pub fn unlisted_bit_latched(_: &Chain, _: u8, d: &Drive) -> bool {
     d.latched & !LATCHED_BITS != 0
 }
 
+/// Document 02, request 3, as we read it: no rule leaves a fault that stands
+/// with bit 1 clear.
+pub fn fault_stands_without_bit_1(_: &Chain, _: u8, d: &Drive) -> bool {
+    d.standing && d.latched & 1 << WRITE_FAULT == 0
+}
+
 /// As we read it: a drive's pack names its own slot.
 pub fn pack_names_another_slot(_: &Chain, slot: u8, d: &Drive) -> bool {
     d.profile.slot != slot
@@ -1596,7 +1617,7 @@ pub enum Clause {
 macro_rules! clauses {
     ($($kind:ident $name:ident),*) => {
         /// "A record is malformed when ...", clause by clause, in the paper's order.
-        pub const CLAUSES: [Clause; 32] = [$(Clause::$kind(stringify!($name), $name)),*];
+        pub const CLAUSES: [Clause; 33] = [$(Clause::$kind(stringify!($name), $name)),*];
 
         pub fn malformed(chain: &Chain) -> bool {
             $(clauses!(@chain $kind $name chain) ||)* (1..=7).any(|slot| match chain.in_slot(slot) {
@@ -1623,6 +1644,7 @@ clauses!(
     OfDrive head_timer_over_limit,
     OfDrive waiting_over_limit,
     OfDrive unlisted_bit_latched,
+    OfDrive fault_stands_without_bit_1,
     OfDrive pack_names_another_slot,
     OfChain place_not_from_the_file_rules,
     OfDrive starting_motor_with_busy_0,
@@ -1682,7 +1704,7 @@ fn kind_unknown(kind: u32) -> bool {
 }
 
 /// "21 operand out of range", by the table of events. "b is 0 for kinds 0 to
-/// 6."
+/// 6." Document 02, request 3: "condition 4 joins the range of 21".
 fn operand_out_of_range(kind: u32, a: u32, b: u32) -> bool {
     match kind {
         0 => a > 7 || b != 0,
@@ -1690,7 +1712,7 @@ fn operand_out_of_range(kind: u32, a: u32, b: u32) -> bool {
         2 | 3 | 4 | 5 => a > 1 || b != 0,
         6 => a > 65_535 || b != 0,
         7 => a > 65_535 || b > 255,
-        _ => a < 1 || a > 7 || b < 1 || b > 3,
+        _ => a < 1 || a > 7 || b < 1 || b > 4,
     }
 }
 

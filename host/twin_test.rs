@@ -514,7 +514,7 @@ fn decision_36_operands() {
     assert_eq!(b.a(7, 0, 256), 21);
     assert_eq!(b.a(7, 65_536, 0), 21);
     assert_ne!(b.a(7, 65_535, 255), 21);
-    for (slot, condition) in [(0, 1), (8, 1), (2, 0), (2, 4), (0, 0), (65_535, 3)].iter() {
+    for (slot, condition) in [(0, 1), (8, 1), (2, 0), (2, 5), (0, 0), (65_535, 3)].iter() {
         assert_eq!(b.a(8, *slot, *condition), 21);
     }
     for kind in [9, 10, 255, 65_535, u32::max_value()].iter() {
@@ -1086,6 +1086,44 @@ fn request_1_a_seek_to_where_the_heads_are_takes_no_time() {
 }
 
 #[test]
+fn request_3_a_write_fault_stands_until_it_is_ended() {
+    let mut b = rich_bench();
+    assert_eq!((b.a(2, 1, 0), b.a(7, 0, 1)), (0, 2));
+    assert_eq!(b.a(8, 2, 1), 0);
+    assert_eq!((b.d(2).standing, b.d(2).writing, b.d(2).latched), (true, false, B1));
+    b.a(2, 0, 0);
+    // Control 0 clears the other bits and leaves bit 1, as often as it is sent.
+    assert_eq!(b.a(8, 2, 2), 0);
+    for _ in 0..2 {
+        assert_eq!(b.word(0x5000), 0);
+        assert_eq!(b.ask(0x2000), B1);
+        assert_eq!((b.a(2, 1, 0), b.a(7, 0, 2), b.a(2, 0, 0)), (4, 4, 0));
+    }
+    // Stop, start, select and time leave the fault.
+    assert_eq!((b.word(0x5200), b.word(0x5300)), (0, 0));
+    b.a(6, 20_000, 0);
+    assert_eq!((b.a(0, 5, 0), b.a(0, 2, 0)), (0, 0));
+    assert!(b.d(2).standing && !b.d(5).standing);
+    // Ended, it leaves bit 1 latched until control 0.
+    assert_eq!(b.a(8, 2, 4), 0);
+    assert_eq!((b.d(2).standing, b.d(2).latched), (false, B1));
+    assert_eq!((b.a(2, 1, 0), b.a(7, 0, 2), b.a(2, 0, 0)), (4, 4, 0));
+    b.clear();
+    assert_eq!((b.a(2, 1, 0), b.a(7, 0, 2), b.a(2, 0, 0)), (0, 2, 0));
+    // Ending none changes nothing, nor does it where the write gate latched bit 1.
+    b.a(1, 2, 0);
+    b.a(6, 40, 0);
+    assert_eq!((b.a(2, 1, 0), b.a(2, 0, 0)), (5, 0));
+    assert_eq!((b.d(2).standing, b.d(2).latched), (false, B1));
+    let before = b.clone();
+    assert_eq!(b.a(8, 2, 4), 0);
+    assert!(b.chain == before.chain && b.file == before.file);
+    b.clear();
+    // 21 and 24 know the new condition.
+    assert_eq!((b.a(8, 2, 5), b.a(8, 3, 4)), (21, 24));
+}
+
+#[test]
 fn request_8_a_size_that_is_set_leaves_room_for_its_gaps() {
     // The pack brings sectors of 162 bytes, and gaps that fill 255 + 2 × 255.
     let tight = Profile { sector: 162, gap: 255, sync: 255, ..rich(2, false) };
@@ -1313,6 +1351,14 @@ fn limits_are_clauses() {
         let expected = if listed { vec![] } else { vec!["unlisted_bit_latched"] };
         assert_eq!(by(&|c| drive5(c).latched = 1 << n), expected);
     }
+    assert_eq!(by(&|c| drive5(c).standing = true), vec!["fault_stands_without_bit_1"]);
+    assert_eq!(
+        by(&|c| {
+            drive5(c).standing = true;
+            drive5(c).latched = B8 | B1;
+        }),
+        nothing
+    );
     let mut open = rich_bench();
     open.bits(0, 2);
     assert_eq!(broken_by(&open, &|c| drive2(c).waiting = 10_001), vec!["waiting_over_limit"]);
@@ -1693,13 +1739,13 @@ fn decision_48_demand_3() {
 #[test]
 fn decision_48_a_gate_on_that_began_nothing_needs_the_premise() {
     let mut b = rich_bench();
-    b.a(8, 2, 1);
+    b.a(8, 2, 2);
     assert_eq!(b.a(2, 1, 0), 4);
     let mut plain = b.clone();
     assert_eq!(plain_word(plain.dm(2), with_parity(0x5000)), None);
     assert_eq!(plain.d(2).latched, 0);
     assert_eq!(b.a(5, 1, 0), 5);
-    assert_eq!(b.d(2).latched, B1 | B6);
+    assert_eq!(b.d(2).latched, B4 | B6);
 }
 
 // ===========================================================================
@@ -1831,7 +1877,7 @@ fn disturb_once(dice: &mut Dice, chain: &mut Chain) {
         random_fitted_slot(dice, chain) as u8
     };
     let request = chain.request;
-    let what = dice.upto(18);
+    let what = dice.upto(19);
     {
         let d = chain.in_slot_mut(slot).unwrap();
         match what {
@@ -1889,6 +1935,11 @@ fn disturb_once(dice: &mut Dice, chain: &mut Chain) {
         16 => chain.write_gate = !chain.write_gate,
         17 => chain.read_gate = !chain.read_gate,
         18 => chain.request = !chain.request,
+        19 => {
+            let d = chain.in_slot_mut(slot).unwrap();
+            d.standing = !d.standing;
+            d.latched |= B1;
+        }
         _ => (),
     }
 }
@@ -1909,8 +1960,8 @@ fn random_event(dice: &mut Dice, chain: &Chain) -> Event {
         11 => (6, dice.upto(100), 0),
         12 => (6, dice.pick(&[0, 1, 9_999, 10_000, 10_001, 65_535]), 0),
         13 | 14 | 15 => (7, dice.upto(4_300), dice.upto(255)),
-        16 | 17 => (8, dice.between(1, 7), dice.between(1, 3)),
-        18 => (8, random_fitted_slot(dice, chain), dice.between(1, 3)),
+        16 | 17 => (8, dice.between(1, 7), dice.between(1, 4)),
+        18 => (8, random_fitted_slot(dice, chain), dice.between(1, 4)),
         19 => (dice.upto(9), dice.upto(20), dice.upto(2)),
         20 => (dice.upto(12), dice.upto(70_000), dice.upto(300)),
         21 => (dice.next() as u32, dice.next() as u32, dice.next() as u32),
@@ -1969,7 +2020,7 @@ fn plan_cells(dice: &mut Dice, chain: &Chain, plan: &mut Vec<Event>) {
         plan.push((7, dice.upto(4_094), dice.upto(255)));
         if n == spoil_at {
             let slot = chain.select as u32;
-            plan.push(match dice.upto(8) {
+            plan.push(match dice.upto(9) {
                 0 => (1, dice.upto(3), 0),
                 1 => (2, 1, 0),
                 2 => (3, 1, 0),
@@ -1978,6 +2029,7 @@ fn plan_cells(dice: &mut Dice, chain: &Chain, plan: &mut Vec<Event>) {
                 5 => (8, slot, 1),
                 6 => (8, slot, 2),
                 7 => (8, slot, 3),
+                8 => (8, slot, 4),
                 _ => (6, dice.upto(65_535), 0),
             });
         }
@@ -2010,8 +2062,11 @@ fn plan_activity(dice: &mut Dice, chain: &Chain) -> Vec<Event> {
             }
         }
         7 | 8 => {
-            // Clear attention and write.
+            // End a fault, most times, clear attention and write.
             plan_quiet(&mut plan);
+            if !dice.one_in(4) {
+                plan.push((8, chain.select as u32, 4));
+            }
             plan_patience(dice, chain.selected().unwrap(), &mut plan);
             plan.push((1, dice.pick(&[0, 0, 0, 1]), 0));
             plan.push((6, 65_535, 0));
@@ -2078,7 +2133,7 @@ fn changed_slots(before: &Chain, after: &Chain) -> Vec<u8> {
 /// What the answer table and the rules say of any single event, apart from
 /// the twin's own reasoning.
 fn check_event(before: &Chain, after: &Chain, event: Event, answer: u8, value: u8) {
-    let (kind, a, _) = event;
+    let (kind, a, b) = event;
     assert!(value == 0 || answer == 1);
     let fitted = after.selected().is_some();
     match answer {
@@ -2132,7 +2187,9 @@ fn check_event(before: &Chain, after: &Chain, event: Event, answer: u8, value: u
     for slot in 1..=7 {
         if let (Some(was), Some(is)) = (before.in_slot(slot), after.in_slot(slot)) {
             let fell = was.latched & !is.latched != 0;
-            assert!(!fell || (kind == 5 && a == 0 && is.latched == 0));
+            let left = if is.standing { B1 } else { 0 };
+            assert!(!fell || (kind == 5 && a == 0 && is.latched == left));
+            assert!(was.standing == is.standing || (kind == 8 && b == if is.standing { 1 } else { 4 }));
             assert!(!(is.writing && is.latched != 0));
             assert_eq!(was.profile, is.profile);
             assert_eq!(was.place, is.place);
@@ -2178,6 +2235,12 @@ fn tell(before: &Chain, after: &Chain, event: Event, seen: &mut BTreeMap<String,
             }
             if was.latched != 0 && is.latched == 0 {
                 note("latched bits cleared".to_string());
+            }
+            if was.latched & !is.latched != 0 && is.latched == B1 {
+                note("latched bits cleared but bit 1".to_string());
+            }
+            if was.standing != is.standing {
+                note(format!("write fault stands {}", is.standing));
             }
         }
     }
@@ -2236,7 +2299,7 @@ fn soundness_by_random_events() {
                 d.place + track * d.profile.track as usize + event.1 as usize
             };
             if answer == 2 {
-                assert!(before.selected().unwrap().writing);
+                assert!(before.selected().unwrap().writing && !before.selected().unwrap().standing);
                 shadow[place(&before)] = event.2 as u8;
             }
             if answer == 1 {
@@ -2304,6 +2367,9 @@ fn soundness_by_random_events() {
         "cylinder moved",
         "sector size set",
         "latched bits cleared",
+        "latched bits cleared but bit 1",
+        "write fault stands true",
+        "write fault stands false",
     ];
     for name in deep.iter() {
         assert!(seen.contains_key(*name), "{} never seen", name);
@@ -2357,7 +2423,7 @@ fn break_field(dice: &mut Dice, chain: &mut Chain) {
     let r = dice.next() as u32;
     let small = dice.upto(40);
     let slot = random_fitted_slot(dice, chain) as u8;
-    let what = dice.upto(28);
+    let what = dice.upto(29);
     let d = chain.in_slot_mut(slot).unwrap();
     match what {
         0 => d.profile.slot = small as u8,
@@ -2395,6 +2461,7 @@ fn break_field(dice: &mut Dice, chain: &mut Chain) {
             d.bits = r >> dice.upto(31);
         }
         27 => d.acknowledge = !d.acknowledge,
+        28 => d.standing = !d.standing,
         _ => {
             chain.select = small as u8;
             chain.head_lines = dice.upto(20) as u8;

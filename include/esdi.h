@@ -60,9 +60,10 @@ enum esdi_kind {
 
 /* The conditions, b of ESDI_CONDITION. */
 enum esdi_condition {
-    ESDI_CONDITION_WRITE_FAULT = 1,
+    ESDI_CONDITION_WRITE_FAULT = 1, /* a write fault begins; it stands until it is ended */
     ESDI_CONDITION_SEEK_ERROR = 2,
-    ESDI_CONDITION_MEDIUM_CHANGED = 3 /* on a removable drive only */
+    ESDI_CONDITION_MEDIUM_CHANGED = 3, /* on a removable drive only */
+    ESDI_CONDITION_WRITE_FAULT_ENDS = 4 /* nothing changes where none stands; bit 1 stays until the word 5000h */
 };
 
 /* The lines that the selected drive shows, as esdi_lines adds them up. */
@@ -76,7 +77,8 @@ enum esdi_line {
 };
 
 /* The bits of the status word, which a drive responds to the word 2000h. Those up to 256 are latched: they stand in
- * the field latched until the word 5000h clears them. The last three follow the drive. */
+ * the field latched until the word 5000h clears them, all but ESDI_STATUS_WRITE_FAULT where a write fault stands. The
+ * last three follow the drive. */
 enum esdi_status {
     ESDI_STATUS_MEDIUM_CHANGED = 1,
     ESDI_STATUS_WRITE_FAULT = 2,
@@ -180,6 +182,7 @@ struct esdi_body {
     uint8_t head;
     uint8_t motor; /* an esdi_motor */
     uint8_t reading, writing;
+    uint32_t standing; /* 1 while a write fault stands: ESDI_STATUS_WRITE_FAULT is then latched */
 };
 
 struct esdi_transfer {
@@ -214,9 +217,9 @@ struct esdi_chain {
 
 /* A compiler that packs structs otherwise, or whose numbers are of other sizes, is found out here. */
 #ifdef __cplusplus
-static_assert(sizeof(struct esdi_chain) == 628, "the chain record doesn't lie in memory as the library's");
+static_assert(sizeof(struct esdi_chain) == 656, "the chain record doesn't lie in memory as the library's");
 #else
-_Static_assert(sizeof(struct esdi_chain) == 628, "the chain record doesn't lie in memory as the library's");
+_Static_assert(sizeof(struct esdi_chain) == 656, "the chain record doesn't lie in memory as the library's");
 #endif
 
 /* A code taken apart: the answer in the low byte, the value in the next, a place or a response in the high half. */

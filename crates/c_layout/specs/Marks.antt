@@ -41,6 +41,7 @@ markedBody busy = record {
   motor = 27;
   reading = 28;
   writing = 29;
+  standing = 16_777_230;
 }
 
 abbrev pub markedState : ℕ → State

@@ -84,6 +84,7 @@ fn body(busy: u32) -> Body
         motor: 27,
         reading: 28,
         writing: 29,
+        standing: 16_777_230,
     }
 }
 

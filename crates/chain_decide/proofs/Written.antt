@@ -6,6 +6,7 @@ use Prim.Native.Nat.{ℕ, _+_, _<_}
 use Rattle.counts.specs.declared.Position.{Position}
 use Rattle.pack_profile.specs.Profile.{mediumOf}
 use Rattle.drive_record.specs.Status.{attentionB}
+use Rattle.drive_record.proofs.WithinLimits.{quiet-free}
 use Rattle.drive_gates.proofs.MayReadOrWrite.{Usable, usable}
 use Rattle.event.specs.declared.Event.{Event}
 use Rattle.drive_cable.proofs.OnCable.{writes}
@@ -22,9 +23,11 @@ use Rattle.chain_decide.proofs.Walk.{Cases, walk}
 
 -- the drive under which the byte at a place of the file is written
 pub record Written (c : Chain) (place : ℕ) : Type 0 where
+  pub formed : chainSoundB c ≡ true
   pub selected : lookOf c .selected ≡ true
   pub usable : Usable (lookOf c .profile) (lookOf c .state)  -- ready, complete, position known, head present
   pub quiet : not (attentionB (lookOf c .state .body)) ≡ true
+  pub standing : lookOf c .state .body .standing ≡ 0  -- request 3
   pub offset : lookOf c .state .body .arm .offset ≡ 0
   pub free : lookOf c .profile .protected ≡ 0
   pub position : Position
@@ -42,9 +45,11 @@ module _ (c : Chain) (h : chainSoundB c ≡ true) where
       let d = chosen c h on .drive in
       let g = writes _ _ _ (d .writing) w in
       record {
+        formed = h;
         selected = on;
         usable = usable _ _ (g .usable);
         quiet = g .quiet;
+        standing = quiet-free _ _ (d .limits) (g .quiet);
         offset = g .offset;
         free = g .free;
         position = position;

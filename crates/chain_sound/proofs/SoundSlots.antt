@@ -84,6 +84,13 @@ module _ (p : Pack) (slot : ℕ) (at : Place) (h : placedOf p slot at .ok ≡ tr
       goes-on (ltb 1 (p .fitted)) (eqb (p .fitted) 1) (ltb longestFile (packEnd p)) (packB p slot at) at (packEnd p)
       (λ ok. omega (arith, eqb-true (p .place .0) (at .0) (each (packTests p slot at) ok .1 .0))) h
 
+  -- a fitted pack starts there, and the next at its end
+  stands-at : p .fitted ≡ 1 → (p .place .0 ≡ at .0) × (placedOf p slot at .end .0 ≡ packEnd p)
+  unfolding placedOf
+  stands-at f =
+      let r = holds (ltb 1 (p .fitted)) (eqb (p .fitted) 1) (ltb longestFile (packEnd p)) (packB p slot at) at (packEnd p) h (eq-eqb _ _ f) in
+      (eqb-true _ _ (each (packTests p slot at) (r .0) .1 .0), r .1)
+
   stands : p .fitted ≡ 1 → InFile slot (placedOf p slot at .end .0) p
   unfolding placedOf
   stands f =
@@ -109,6 +116,27 @@ placed-at (p ∷ packs) slot at len (suc i) h f =
     let g = guarded (placedOf p slot at .ok) _ h in
     let s = placed-at packs (slot + 1) (placedOf p slot at .end) len i (g .1) f in
     record { own = omega arith; valid = s .valid; within = s .within }
+
+-- no pack starts in front of those before it
+later : (packs : List Pack) (slot : ℕ) (at len : Place) (i : ℕ) → placesB packs slot at len ≡ true → getD packs i noPack .fitted ≡ 1
+    → at .0 ≤ getD packs i noPack .place .0
+later [] slot at len i h f = absurd (omega arith)
+later (p ∷ packs) slot at len zero h f = omega (arith, stands-at p slot at (guarded (placedOf p slot at .ok) _ h .0) f .0)
+later (p ∷ packs) slot at len (suc i) h f =
+    let g = guarded (placedOf p slot at .ok) _ h in
+    omega (arith, forward p slot at (g .0), later packs (slot + 1) (placedOf p slot at .end) len i (g .1) f)
+
+-- of two fitted packs the one ends before the other starts
+pub in-order : (packs : List Pack) (slot : ℕ) (at len : Place) (i j : ℕ) → placesB packs slot at len ≡ true → getD packs i noPack .fitted ≡ 1
+    → getD packs j noPack .fitted ≡ 1 → i < j → packEnd (getD packs i noPack) ≤ getD packs j noPack .place .0
+in-order [] slot at len i j h f k lt = absurd (omega arith)
+in-order (p ∷ packs) slot at len i zero h f k lt = absurd (omega arith)
+in-order (p ∷ packs) slot at len zero (suc j) h f k lt =
+    let g = guarded (placedOf p slot at .ok) _ h in
+    omega (arith, stands-at p slot at (g .0) f .1, later packs (slot + 1) (placedOf p slot at .end) len j (g .1) k)
+in-order (p ∷ packs) slot at len (suc i) (suc j) h f k lt =
+    let g = guarded (placedOf p slot at .ok) _ h in
+    in-order packs (slot + 1) (placedOf p slot at .end) len i j (g .1) f k (omega arith)
 
 pub blank-drive : (l : Lines) (s : State) → driveB l noPack s ≡ true
 unfolding driveB

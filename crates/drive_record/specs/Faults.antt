@@ -10,7 +10,7 @@ use Rattle.handshake.specs.Transfer.{noTransfer}
 use Rattle.drive_record.specs.declared.State.{State}
 use Rattle.drive_record.specs.declared.Outcome.the-variants.{Done, Fault}
 use Rattle.drive_record.specs.declared.Ruled.{Ruled}
-use Rattle.drive_record.specs.State.{with-arm, with-latched, with-reading, with-writing, stateOf, ruled}
+use Rattle.drive_record.specs.State.{with-arm, with-latched, with-reading, with-writing, with-standing, stateOf, ruled}
 
 -- a bit of the status word, by its value; "Latching any bit ends writing."
 unfoldable pub latchOf : ℕ → Body → Body
@@ -23,12 +23,13 @@ latchBit k b = latchOf (2 ^ k) b
 abbrev pub losePosition : Body → Body
 losePosition b = with-arm (record { cylinder = b .arm .cylinder; offset = b .arm .offset; lost = 1 }) b
 
--- "Condition 1 latches bit 1; 2 latches bit 4, loses the position and ends reading; 3 latches bit 0."
+-- the conditions of kind 8; request 3: "Condition 1 now begins a fault and a new condition 4 ends it."
 unfoldable pub conditionOf : ℕ → Body → Body
 conditionOf which b =
-    if eqb which 1 then latchBit 1 b
-    else if eqb which 2 then with-reading 0 (losePosition (latchBit 4 b))
-    else latchBit 0 b
+    if eqb which 1 then with-standing 1 (latchBit 1 b)  -- "Condition 1 latches bit 1"
+    else if eqb which 2 then with-reading 0 (losePosition (latchBit 4 b))  -- "2 latches bit 4, loses the position and ends reading"
+    else if eqb which 3 then latchBit 0 b  -- "3 latches bit 0"
+    else with-standing 0 b
 
 -- "bit 6, dropped. Dropping lowers acknowledge."
 abbrev pub droppedOf : Body → State

@@ -50,6 +50,14 @@ motorTests motor busy =
 abbrev pub motorB : ℕ → ℕ → Bool
 motorB motor busy = allOf (motorTests motor busy)
 
+-- request 3: a write fault that stands has latched bit 1, which nothing clears while it does
+abbrev pub standingTests : ℕ → Latched → List Bool
+standingTests standing l =
+    leb standing 1 ∷ (not (eqb standing 1) || eqb (bit (l .0) 1) 1) ∷ []
+
+abbrev pub standingB : ℕ → Latched → Bool
+standingB standing l = allOf (standingTests standing l)
+
 abbrev pub limitTests : Profile → Body → List Bool
 limitTests p b =
     armB p (b .arm) ∷
@@ -59,7 +67,8 @@ limitTests p b =
     leb (b .head .0) lastHead ∷  -- "head ≤ 15"
     motorB (b .motor) (b .timers .busy .0) ∷
     leb (b .reading) 1 ∷
-    leb (b .writing) 1 ∷ []
+    leb (b .writing) 1 ∷
+    standingB (b .standing) (b .latched) ∷ []
 
 unfoldable pub limitsB : Profile → Body → Bool
 limitsB p b = allOf (limitTests p b)

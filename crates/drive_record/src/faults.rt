@@ -20,12 +20,14 @@ pub fn latch(b: Body, bit: u16) -> Body
     e
 }
 
-// 1 write fault, 2 seek error, 3 medium changed.
+// 1 begins a write fault, 2 seek error, 3 medium changed, 4 ends the write fault.
 pub fn condition(b: Body, which: u8) -> Body
     ensures { λ r. ⌜ r ≡ conditionOf which b ⌝ }
 {
     if which == 1 {
-        return latch(b, Latched::WRITE);
+        let mut e = latch(b, Latched::WRITE);
+        e.standing = 1;
+        return e;
     }
     if which == 2 {
         let mut e = latch(b, Latched::SEEK);
@@ -33,7 +35,12 @@ pub fn condition(b: Body, which: u8) -> Body
         e.reading = 0;
         return e;
     }
-    latch(b, Latched::CHANGED)
+    if which == 3 {
+        return latch(b, Latched::CHANGED);
+    }
+    let mut e = b;
+    e.standing = 0;
+    e
 }
 
 // Bit 6, and the transfer is dropped.

@@ -33,6 +33,7 @@ pub struct Timers {
 }
 
 // All of a drive but its transfer. motor: 0 stopped, 1 starting, 2 up. sector: the size now in force.
+// standing: 1 while a write fault stands; wider than it needs, so that no byte is padding.
 #[repr(C)]
 pub struct Body {
     pub timers: Timers,
@@ -43,6 +44,7 @@ pub struct Body {
     pub motor: u8,
     pub reading: u8,
     pub writing: u8,
+    pub standing: u32,
 }
 
 #[repr(C)]
@@ -124,6 +126,7 @@ impl Body {
             motor: Body::UP,
             reading: 0,
             writing: 0,
+            standing: 0,
         }
     }
 
@@ -149,6 +152,7 @@ impl Body {
             motor: 0,
             reading: 0,
             writing: 0,
+            standing: 0,
         }
     }
 }

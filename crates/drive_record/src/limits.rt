@@ -5,7 +5,7 @@ use crate::Latched;
 use crate::Timers;
 use pack_profile::Profile;
 ghost use mathlib.Core.Path.{_≡_};
-ghost use Rattle.drive_record.specs.Limits.{armB, timersB, latchedB, motorB, limitsB};
+ghost use Rattle.drive_record.specs.Limits.{armB, timersB, latchedB, motorB, standingB, limitsB};
 
 fn arm_ok(p: Profile, a: Arm) -> bool
     ensures { λ r. ⌜ r ≡ armB p a ⌝ }
@@ -33,6 +33,13 @@ fn motor_ok(motor: u8, busy: u32) -> bool
     (motor <= Body::UP) & ((motor != Body::STARTING) | (busy != 0))
 }
 
+// A write fault that stands has its bit latched.
+fn standing_ok(standing: u32, l: Latched) -> bool
+    ensures { λ r. ⌜ r ≡ standingB standing l ⌝ }
+{
+    (standing <= 1) & ((standing != 1) | (l.0 / 2 % 2 == 1))
+}
+
 pub fn kept(p: Profile, b: Body) -> bool
     ensures { λ r. ⌜ r ≡ limitsB p b ⌝ }
 {
@@ -47,4 +54,5 @@ pub fn kept(p: Profile, b: Body) -> bool
         & motor_ok(b.motor, timers.busy.0)
         & (b.reading <= 1)
         & (b.writing <= 1)
+        & standing_ok(b.standing, latched)
 }

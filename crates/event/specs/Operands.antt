@@ -29,9 +29,9 @@ isPosition a = leb a 65_535
 abbrev pub isByte : ℕ → Bool
 isByte b = leb b 255
 
--- "1 write fault, 2 seek error, 3 medium changed"
+-- "1 write fault, 2 seek error, 3 medium changed"; request 3: "condition 4 joins the range of 21"
 abbrev pub isCondition : ℕ → Bool
-isCondition b = within 1 3 b
+isCondition b = within 1 4 b
 
 -- "b is 0 for kinds 0 to 6": whether another stands there
 abbrev pub strayB : ℕ → ℕ → Bool

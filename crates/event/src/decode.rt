@@ -19,7 +19,7 @@ const HEADS: u32 = Lines::LAST_HEAD as u32;
 
 const SLOT: u32 = LAST_SLOT as u32;
 
-const CONDITION: u32 = 3;
+const CONDITION: u32 = 4;
 
 // Kinds up to 6 have no second operand.
 fn stray(kind: u32, b: u32) -> bool

@@ -17,7 +17,7 @@ pub enum Event {
     Request(u8),
     Pass(Micros),
     Cell(Position, u8),
-    // the slot, and what happens there: 1 write fault, 2 seek error, 3 medium changed
+    // the slot, and what happens there: 1 a write fault begins, 2 seek error, 3 medium changed, 4 the write fault ends
     Condition(u8, u8),
 }
 

@@ -3,6 +3,7 @@ use mathlib.Core.Path.{_≡_, refl}
 use mathlib.Core.Bool.{true, not}
 use mathlib.Core.Logic.{inl}
 use Prim.Native.Nat.{ℕ}
+use native.Mathlib.Omega.{arith}
 use lib.Dec.{ltb, eqb}
 use borrow.Author.Tests.{not-false}
 use Rattle.counts.specs.Slots.{slotB}
@@ -18,7 +19,7 @@ use Rattle.chain_apply.specs.Apply.{changedOf, applied}
 use Rattle.chain_sound.specs.SoundChain.{chainSoundB}
 use Rattle.chain_sound.proofs.SoundSlots.{sound}
 use Rattle.law_drive.proofs.WordRules.{plain-keeps}
-use Rattle.law_chain.proofs.Drives.{put-other, slot-valid, slot-sound}
+use Rattle.law_chain.proofs.Drives.{put-other, slot-valid, slot-sound, put-in}
 use Rattle.law_chain.proofs.Kept.{one-put}
 use Rattle.law_chain.proofs.Sizes as sizes
 use Rattle.c_pack.specs.declared.Coded.{Coded}
@@ -67,7 +68,9 @@ module _ (c : Chain) (slot n : ℕ) where
 
   put-sized : chainSoundB c ≡ true → fittedB (slotPack (c .packs) slot) ≡ true → sizes.AllSized c (stateIn c slot given .states)
   unfolding applied changedOf
-  put-sized h f = sizes.one-put c h slot given f (plain-sized (slotPack (c .packs) slot .profile) (slotState (c .states) slot) n)
+  put-sized h f k g =
+      put-in c h (sizes.SizedAt c) (c .states) (omega arith) slot given f (plain-sized (slotPack (c .packs) slot .profile) (slotState (c .states) slot) n) k
+      (λ ne. inl refl)
 
   -- request 8
   pub slot-sized : sizes.AllSized c (slotWord c slot n .chain .states)

@@ -4,8 +4,8 @@ use mathlib.Core.Bool.{Bool, true, false, not}
 use mathlib.Core.List.{List, [], _∷_}
 use Prim.Native.Nat.{ℕ, zero, suc, _+_, _-_, _≤_, _<_}
 use native.Mathlib.Omega.{arith}
-use borrow.Author.Tests.{eqb-true, eqb-false, eq-eqb, le-leb, not-false}
-use lib.Dec.{eqb}
+use borrow.Author.Tests.{eqb-true, eqb-false, ltb-true, ltb-false, eq-eqb, le-leb, not-false}
+use lib.Dec.{ltb, eqb}
 use lib.ListN.{length, getD, set, length-set}
 use lib.Seq.{getD-set-same, getD-set-other, set-getD}
 use Rattle.counts.specs.Choice.{if_then_else_}
@@ -13,6 +13,7 @@ use Rattle.counts.specs.Slots.{slotB, mapWith}
 use Rattle.counts.proofs.Choice.{by-test}
 use Rattle.counts.proofs.Slots.{map-at, all-at, all-from, no-shorter}
 use Rattle.counts.proofs.Tests.{join, within-both}
+use Rattle.pack_profile.specs.Profile.{mediumOf}
 use Rattle.pack_profile.specs.Valid.{validB}
 use Rattle.pack_profile.proofs.FieldRanges.{ranges}
 use Rattle.pack_read.specs.declared.Pack.{Pack}
@@ -26,8 +27,8 @@ use Rattle.chain_record.specs.declared.Chain.{Chain}
 use Rattle.chain_record.specs.Record.{slotPack, slotState}
 use Rattle.pack_read.specs.Packs.{fittedB}
 use Rattle.chain_apply.specs.Apply.{putOf}
-use Rattle.chain_sound.specs.SoundChain.{fileStart, driveB, chainSoundB}
-use Rattle.chain_sound.proofs.SoundSlots.{sound, InFile, placed-at, blank-drive, slot-of, pack-there, state-there}
+use Rattle.chain_sound.specs.SoundChain.{packEnd, fileStart, driveB, chainSoundB}
+use Rattle.chain_sound.proofs.SoundSlots.{sound, InFile, placed-at, in-order, blank-drive, slot-of, pack-there, state-there}
 
 -- a state put into a slot, looked at from a slot
 module _ (states : List State) (slot : ℕ) (s : State) where
@@ -64,6 +65,10 @@ put-back states slot = by (slotB slot)
     by : (t : Bool) → (if t then set states (slot - 1) (if t then getD states (slot - 1) blankState else blankState) else states) ≡ states
     by true = set-getD states (slot - 1) blankState
     by false = refl
+
+-- a byte of a pack's medium
+abbrev pub InMediumOf : Pack → ℕ → Type 0
+InMediumOf p i = (p .place .0 ≤ i) × (i < p .place .0 + mediumOf (p .profile .shape))
 
 -- no pack stands past the end of the packs
 pub there : (packs : List Pack) (i : ℕ) → getD packs i noPack .fitted ≡ 1 → i < length packs
@@ -117,6 +122,25 @@ module _ (c : Chain) (h : chainSoundB c ≡ true) where
         state-there k (mapWith g (c .packs) (c .states)) is-slot
         ∙ rw (pack-there k (c .packs) is-slot, state-there k (c .states) is-slot)
         (map-at g (c .packs) (c .states) (k - 1) noPack blankState pack-room slot-room)
+
+  -- one pack ends before the next begins
+  in-turn : (j k : ℕ) → fittedB (slotPack (c .packs) j) ≡ true → fittedB (slotPack (c .packs) k) ≡ true → j < k
+      → packEnd (slotPack (c .packs) j) ≤ slotPack (c .packs) k .place .0
+  in-turn j k f g lt =
+      let a = within-both 1 7 j (is-slot j f) in
+      let b = within-both 1 7 k (is-slot k g) in
+      rw (pack-there j (c .packs) (is-slot j f), pack-there k (c .packs) (is-slot k g))
+      (in-order (c .packs) 1 fileStart (c .length) (j - 1) (k - 1) (sound c h .places) (listed j f) (listed k g) (omega (arith, a, b)))
+
+  -- so no byte stands in two media
+  pub one-medium : (j k i : ℕ) → fittedB (slotPack (c .packs) j) ≡ true → fittedB (slotPack (c .packs) k) ≡ true
+      → InMediumOf (slotPack (c .packs) j) i → InMediumOf (slotPack (c .packs) k) i → j ≡ k
+  one-medium j k i f g a b = by (ltb j k) (ltb k j) refl refl
+    where
+      by : (t u : Bool) → ltb j k ≡ t → ltb k j ≡ u → j ≡ k
+      by true u p q = absurd (omega (arith, in-turn j k f g (ltb-true j k p), a .1, b .0))
+      by false true p q = absurd (omega (arith, in-turn k j g f (ltb-true k j q), b .1, a .0))
+      by false false p q = omega (arith, ltb-false j k p, ltb-false k j q)
 
   -- a state put into a slot of some states: what holds there of it, and elsewhere of those, holds of each
   module _ (P : ℕ → State → Type 0) (states : List State) (long : length (c .states) ≤ length states)

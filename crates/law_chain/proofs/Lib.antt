@@ -10,4 +10,6 @@ pub mod FirstAnswer
 pub mod Answered
 pub mod Stepping
 pub mod Touched
+pub mod Lasting
 pub mod Sizes
+pub mod Standing

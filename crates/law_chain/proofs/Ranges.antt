@@ -27,7 +27,7 @@ InRange (Data level) = level ≤ 1
 InRange (Request level) = level ≤ 1
 InRange (Pass us) = us .0 ≤ 65_535
 InRange (Cell position byte) = (position .0 ≤ 65_535) × (byte ≤ 255)
-InRange (Condition slot which) = (1 ≤ slot) × (slot ≤ 7) × (1 ≤ which) × (which ≤ 3)
+InRange (Condition slot which) = (1 ≤ slot) × (slot ≤ 7) × (1 ≤ which) × (which ≤ 4)
 
 abbrev Within : Decoded → Type 0
 Within (Is e) = InRange e
@@ -54,7 +54,7 @@ row kind a b =
     (λ t. good _ _ (λ h.
     let e = both (slotB a) (isCondition b) h in
     let s = within-both 1 7 a (e .0) in
-    let w = within-both 1 3 b (e .1) in
+    let w = within-both 1 4 b (e .1) in
     (s .0, s .1, w .0, w .1)))))))
 
 decoded : (kind a b : ℕ) → Within (decodeOf kind a b)

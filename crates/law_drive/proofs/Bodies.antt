@@ -16,13 +16,13 @@ use Rattle.pack_profile.specs.declared.Profile.{Profile}
 use Rattle.pack_profile.specs.Valid.{fieldTests, validB}
 use Rattle.pack_profile.proofs.FieldRanges.{ranges}
 use Rattle.drive_record.specs.declared.Body.{Body}
-use Rattle.drive_record.specs.State.{starting, up, with-reading, with-writing, freshBody}
-use Rattle.drive_record.specs.Faults.{latchBit, losePosition}
+use Rattle.drive_record.specs.State.{starting, up, with-reading, with-writing, with-standing, freshBody}
+use Rattle.drive_record.specs.Faults.{latchOf, latchBit, losePosition}
 use Rattle.drive_rules.specs.Heads.{switchedOf}
 use Rattle.drive_rules.specs.Time.{motorAfter, passBody}
-use Rattle.drive_record.specs.Limits.{armTests, timerTests, motorB}
+use Rattle.drive_record.specs.Limits.{armTests, timerTests, motorB, standingB}
 use Rattle.drive_record.proofs.WithinLimits.{Parts}
-use Rattle.word_acts.proofs.ActLimits.{latch-keeps}
+use Rattle.word_acts.proofs.ActLimits.{latch-keeps, latched-stands}
 
 -- "2 latches bit 4, loses the position and ends reading"
 abbrev pub lostBody : Body → Body
@@ -51,6 +51,13 @@ module _ (p : Profile) (b : Body) (q : Parts p b) where
   pub writing-limits : (n : ℕ) → leb n 1 ≡ true → Parts p (with-writing n b)
   writing-limits n h = search needs
 
+  standing-limits : (n : ℕ) → standingB n (b .latched) ≡ true → Parts p (with-standing n b)
+  standing-limits n h = search needs
+
+  -- condition 4
+  pub ended-limits : Parts p (with-standing 0 b)
+  ended-limits = standing-limits 0 refl
+
   unknown-limits : Parts p (losePosition b)
   unknown-limits =
       let e = each (armTests p (b .arm)) (q .arm) in
@@ -71,6 +78,11 @@ module _ (p : Profile) (b : Body) (q : Parts p b) where
       by-test (Parts p) (ltb 15 (p .times .switch .0)) _ _
       (λ e. search needs)
       (λ e. search needs)
+
+  -- condition 1
+  pub begun-limits : Parts p (with-standing 1 (latchBit 1 b))
+  unfolding latchOf
+  begun-limits = standing-limits p _ (latch-limits 1 (omega arith) refl) 1 (latched-stands (b .latched .0))
 
   -- condition 2
   pub lost-limits : Parts p (lostBody b)

@@ -10,18 +10,18 @@ use Rattle.pack_profile.specs.declared.Profile.{Profile}
 use Rattle.pack_profile.specs.Valid.{validB}
 use Rattle.drive_record.specs.declared.Body.{Body}
 use Rattle.drive_record.specs.declared.State.{State}
-use Rattle.drive_record.specs.State.{stateOf}
+use Rattle.drive_record.specs.State.{with-standing, stateOf}
 use Rattle.drive_record.specs.Faults.{latchOf, latchBit, conditionOf}
 use Rattle.drive_record.specs.Status.{completeB}
 use Rattle.drive_gates.specs.Gates.{usableB}
-use Rattle.drive_record.proofs.WithinLimits.{whole}
+use Rattle.drive_record.proofs.WithinLimits.{Parts, whole}
 use Rattle.drive_gates.proofs.MayReadOrWrite.{usable}
 use Rattle.lines.specs.declared.Lines.{Lines}
-use Rattle.drive_cable.specs.SoundDrive.{driveSoundB}
+use Rattle.drive_cable.specs.SoundDrive.{writingB, readingB, driveSoundB}
 use Rattle.drive_cable.proofs.OnCable.{selected}
 use Rattle.law_drive.proofs.SoundDrives.{from-selected, unselected, from-unselected, sound-parts}
 use Rattle.law_drive.proofs.Gates.{not-writing, still-reads, neither}
-use Rattle.law_drive.proofs.Bodies.{latch-limits, lostBody, lost-limits}
+use Rattle.law_drive.proofs.Bodies.{latch-limits, begun-limits, ended-limits, lostBody, lost-limits}
 
 module _ (p : Profile) (v : validB p ≡ true) (l : Lines) (s : State) where
   -- a bit latched: writing ends, reading goes on
@@ -62,11 +62,30 @@ module _ (p : Profile) (v : validB p ≡ true) (l : Lines) (s : State) where
         reading = refl;
       })
 
+  -- a fault that begins to stand, or ends, is asked by no gate and no transfer
+  standing-sound : (on : Bool) (n : ℕ) → Parts p (with-standing n (s .body)) → driveSoundB p l on s ≡ true
+      → driveSoundB p l on (stateOf (with-standing n (s .body)) (s .transfer)) ≡ true
+  unfolding writingB readingB usableB completeB
+  standing-sound true n q sound =
+      let f = selected p l s sound in
+      from-selected p l _ (record { limits = whole p _ q; head = f .head; left = f .left; writing = f .writing; reading = f .reading })
+  standing-sound false n q sound =
+      let u = unselected p l s sound in
+      from-unselected p l _ (record { limits = whole p _ q; none = u .none; writing = u .writing; reading = u .reading })
+
+module _ (p : Profile) (v : validB p ≡ true) (l : Lines) (s : State) where
+  -- "Condition 1 now begins a fault"
+  begun-sound : (on : Bool) → driveSoundB p l on s ≡ true → driveSoundB p l on (stateOf (with-standing 1 (latchBit 1 (s .body))) (s .transfer)) ≡ true
+  begun-sound on sound =
+      standing-sound p v l (stateOf (latchBit 1 (s .body)) (s .transfer)) on 1 (begun-limits p (s .body) (sound-parts p l on s sound))
+      (latched-sound p v l s on 1 (omega arith) refl sound)
+
   pub condition-keeps : (which : ℕ) (on : Bool) → driveSoundB p l on s ≡ true
       → driveSoundB p l on (stateOf (conditionOf which (s .body)) (s .transfer)) ≡ true
   unfolding conditionOf
   condition-keeps which on sound =
       let or = by-test (λ (b : Body). driveSoundB p l on (stateOf b (s .transfer)) ≡ true) in
-      or (eqb which 1) _ _ (λ _. latched-sound on 1 (omega arith) refl sound) λ _.
-      or (eqb which 2) _ _ (λ _. lost-sound on sound) λ _.
-      latched-sound on 0 (omega arith) refl sound
+      or (eqb which 1) _ _ (λ _. begun-sound on sound) λ _.
+      or (eqb which 2) _ _ (λ _. lost-sound p v l s on sound) λ _.
+      or (eqb which 3) _ _ (λ _. latched-sound p v l s on 0 (omega arith) refl sound) λ _.
+      standing-sound p v l s on 0 (ended-limits p (s .body) (sound-parts p l on s sound)) sound

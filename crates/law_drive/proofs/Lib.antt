@@ -10,5 +10,5 @@ pub mod SelectRules
 pub mod ConditionRules
 pub mod TimeRules
 pub mod WordRules
-pub mod SizeRules
+pub mod LastingRules
 pub mod Keeps

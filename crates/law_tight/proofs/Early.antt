@@ -17,7 +17,7 @@ use Rattle.drive_rules.specs.Time.{motorAfter, passBody, passDrive}
 use Rattle.drive_gates.specs.Gates.{usableB}
 use Rattle.drive_cable.specs.Request.{requestRises, requestFalls}
 use Rattle.drive_cable.specs.SoundDrive.{writingB, readingB, selectedB, driveSoundB}
-use Rattle.word_acts.specs.Acts.{actedOf}
+use Rattle.word_acts.specs.Acts.{leftLatched, actedOf}
 use Rattle.word_table.specs.Word.{oddB}
 use Rattle.word_table.specs.Table.{rowOf, foundOf}
 use Rattle.word_table.specs.Effect.{optionB, operandB, blockedB, actOf, orderOf, effectOf}
@@ -59,7 +59,7 @@ unfolding chainSoundB placedOf driveB driveSoundB selectedB writingB readingB us
 resting = record { sound = refl; selected = refl; writegate = refl; readgate = refl; request = refl; closed = refl }
 
 at-once-clear : latchedAfter (atOnce clears start) ≡ 0
-unfolding onesIn decideOf passEvent applied changedOf putOf passSlot passDrive passBody motorAfter waitOf lateB lookOf slotPack slotState completeB plainOf carryOf doneOf effectOf orderOf foundOf rowOf firstOf oddB optionB operandB blockedB actOf actedOf latchOf
+unfolding onesIn decideOf passEvent applied changedOf putOf passSlot passDrive passBody motorAfter waitOf lateB lookOf slotPack slotState completeB plainOf carryOf doneOf effectOf orderOf foundOf rowOf firstOf oddB optionB operandB blockedB actOf leftLatched actedOf latchOf
 at-once-clear = refl
 
 -- the first bit alone is a word of even parity: bit 7; the word itself is never carried out

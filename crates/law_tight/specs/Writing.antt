@@ -34,6 +34,7 @@ writingState =
       motor = up;
       reading = 0;
       writing = 1;
+      standing = 0;
     })
     noTransfer
 

@@ -32,6 +32,7 @@ struct Totals {
     seek: u32,
     stopped: u32,
     lost: u32,
+    standing: u32,
     differences: u32,
 }
 
@@ -75,7 +76,7 @@ fn some_event(r: u64) -> Three {
         0 => numbers(
             CONDITION,
             below(more, 7) as u32 + 1,
-            below(more / 16, 3) as u32 + 1,
+            below(more / 16, 4) as u32 + 1,
         ),
         1 => numbers(HEADS, below(more, 4) as u32, 0),
         2 => numbers(PASS, below(more, 500) as u32, 0),
@@ -155,6 +156,7 @@ fn counted(t: Totals, before: State, bit: u16, response: u32, good: bool) -> Tot
         seek: one_more(t.seek, bit == Latched::SEEK),
         stopped: one_more(t.stopped, before.body.motor != Body::UP),
         lost: one_more(t.lost, before.body.arm.lost == 1),
+        standing: one_more(t.standing, before.body.standing == 1),
         differences: one_more(t.differences, !good),
     }
 }
@@ -233,6 +235,7 @@ fn say_totals(t: Totals) {
     say(b", responses ", t.responses);
     say(b", to stopped drives ", t.stopped);
     say(b", to lost ones ", t.lost);
+    say(b", with a fault standing ", t.standing);
     say(b", differences ", t.differences);
     io::write_all(STDOUT_FILENO, b"\n");
 }
@@ -246,6 +249,7 @@ fn no_totals() -> Totals {
         seek: 0,
         stopped: 0,
         lost: 0,
+        standing: 0,
         differences: 0,
     }
 }

@@ -24,6 +24,7 @@ fn same_body(a: Body, b: Body) -> bool {
         & (a.motor == b.motor)
         & (a.reading == b.reading)
         & (a.writing == b.writing)
+        & (a.standing == b.standing)
 }
 
 fn same_transfer(a: Transfer, b: Transfer) -> bool {

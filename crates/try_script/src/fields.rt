@@ -83,7 +83,7 @@ fn with_timers(t: Timers, k: u8, v: u32) -> Timers {
 
 // The body's own fields.
 fn body_name(name: &[u8]) -> u8 {
-    index(b"latched sector head motor reading writing", name)
+    index(b"latched sector head motor reading writing standing", name)
 }
 
 fn body_field(b: Body, k: u8) -> u32 {
@@ -94,6 +94,7 @@ fn body_field(b: Body, k: u8) -> u32 {
         3 => b.motor as u32,
         4 => b.reading as u32,
         5 => b.writing as u32,
+        6 => b.standing,
         _ => NO_FIELD,
     }
 }
@@ -111,6 +112,7 @@ fn with_body(b: Body, name: &[u8], v: u32) -> Body {
         motor: byte(k == 3, v, b.motor),
         reading: byte(k == 4, v, b.reading),
         writing: byte(k == 5, v, b.writing),
+        standing: whole(k == 6, v, b.standing),
     }
 }
 

@@ -11,6 +11,7 @@ use crate::drives::READING;
 use crate::drives::REMOVABLE;
 use crate::drives::SET;
 use crate::drives::SOFT;
+use crate::drives::STANDING;
 use crate::drives::STARTING;
 use crate::drives::STOPPED;
 use crate::drives::SWITCHING;
@@ -206,4 +207,15 @@ pub fn clearing() {
     send(HARD, FRESH, 0x5000);
     send(HARD, LATCHED, 0x5000);
     send(HARD, LOST, 0x5000);
+}
+
+// Control 0 leaves bit 1; other words know nothing of the fault.
+pub fn standing() {
+    title(b"a write fault stands");
+    each(
+        HARD,
+        STANDING,
+        &[0x5000, 0x2000, 0x5200, 0x5300, 0x1000, 0xF000],
+    );
+    send(REMOVABLE, STANDING, 0x5000);
 }

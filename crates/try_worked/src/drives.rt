@@ -60,6 +60,9 @@ pub const SET: u8 = 10;
 // Every bit that may be latched is.
 pub const LATCHED: u8 = 11;
 
+// And a write fault stands.
+pub const STANDING: u8 = 12;
+
 fn general(drive: u8) -> u16 {
     match drive {
         HARD => 0x226A,
@@ -187,6 +190,7 @@ fn motor(how: u8) -> u8 {
 fn latched(how: u8) -> u16 {
     match how {
         LATCHED => 0x1FB,
+        STANDING => 0x1FB,
         READING => 0,
         WRITING => 0,
         _ => Latched::POWER_ON,
@@ -227,6 +231,7 @@ pub fn body(p: Profile, how: u8) -> Body {
         motor: motor(how),
         reading: only(how, READING),
         writing: only(how, WRITING),
+        standing: only(how, STANDING) as u32,
     }
 }
 

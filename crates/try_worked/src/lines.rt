@@ -1,5 +1,5 @@
 // One line a word: the drive, its state, the word and its parity: the response and its parity | the drive as it is left,
-// that is its latched bits, cylinder, offset, lost, motor, busy, head timer, sector size, reading, writing, and its transfer's way.
+// that is its latched bits, cylinder, offset, lost, motor, busy, head timer, sector size, reading, writing, standing, and its transfer's way.
 use crate::drives;
 use drive_record::Body;
 use drive_record::State;
@@ -65,6 +65,7 @@ fn state_name(how: u8) {
         drives::AWAY => put(b" away"),
         drives::SET => put(b" set"),
         drives::LATCHED => put(b" latched"),
+        drives::STANDING => put(b" standing"),
         _ => incomplete_name(how),
     }
 }
@@ -93,6 +94,7 @@ fn body_left(b: Body) {
     number(b.sector.0 as u32);
     number(b.reading as u32);
     number(b.writing as u32);
+    number(b.standing);
 }
 
 fn state_left(s: State) {

@@ -18,4 +18,5 @@ fn main() {
     cases::lost();
     cases::incomplete();
     cases::clearing();
+    cases::standing();
 }

@@ -25,7 +25,7 @@ use Rattle.word_acts.specs.declared.Act.{Act}
 use Rattle.word_acts.specs.declared.Act.the-variants.{Seek, Recalibrate, Clear, Stop, Start, Offset, Diagnose, Sector}
 use Rattle.word_acts.specs.Acts.{distanceOf, busyFor, home, startOf, actedOf}
 use Rattle.word_acts.proofs.Times.{seek-most, distance-below}
-use Rattle.word_acts.proofs.ActLimits.{busy-keeps}
+use Rattle.word_acts.proofs.ActLimits.{busy-keeps, clear-keeps}
 
 -- the operands that may stand
 abbrev pub Allowed : Profile → Act → Type 0
@@ -73,7 +73,7 @@ module _ (p : Profile) (v : validB p ≡ true) (b : Body) (q : Parts p b) where
       let near = distance-below (p .shape .cylinders .0) (b .arm .cylinder) to here h in
       moved _ _ (placed to 0 h (omega arith)) (seek-most p v (distanceOf (b .arm .cylinder) to) (omega (arith, near, ranges p v .cylinders .1)))
   act-keeps Recalibrate h = moved home (p .times .recalibrate) at-home (ranges p v .recalibrate)
-  act-keeps Clear h = search needs
+  act-keeps Clear h = clear-keeps p b q
   act-keeps Stop h = search needs
   act-keeps Start h = started
   act-keeps (Offset code) h = moved _ _ (placed (b .arm .cylinder) code here h) (omega (arith, ranges p v .offset))

@@ -1,4 +1,4 @@
--- What no word changes: the head and its timer, and what a gate began but for a latch, which ends writing.
+-- What no word changes: the head and its timer, whether a write fault stands, and what a gate began but for a latch, which ends writing.
 use mathlib.Core.Path.{_≡_}
 use Prim.Native.Nat.{ℕ}
 use lib.Dec.{eqb}
@@ -16,6 +16,7 @@ pub record Leaves (b e : Body) : Type 0 where
   pub head : e .head ≡ b .head
   pub timer : e .timers .head ≡ b .timers .head
   pub reading : e .reading ≡ b .reading
+  pub standing : e .standing ≡ b .standing
   pub writing : b .writing ≡ 0 → e .writing ≡ 0
 
 pub same-leaves : (b : Body) → Leaves b b

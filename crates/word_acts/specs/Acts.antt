@@ -1,6 +1,7 @@
 -- The column "effect": what each command does to a drive.
-use Prim.Native.Nat.{ℕ, _+_, _*_, _-_}
+use Prim.Native.Nat.{ℕ, _+_, _*_, _-_, _^_}
 use mathlib.Core.Bool.{_&&_}
+use lib.Bits.{bitAnd}
 use lib.Dec.{leb, eqb}
 use Rattle.counts.specs.declared.Cylinder.{Cylinder}
 use Rattle.counts.specs.declared.Distance.{Distance}
@@ -9,6 +10,7 @@ use Rattle.counts.specs.declared.SectorSize.{SectorSize}
 use Rattle.counts.specs.Choice.{if_then_else_}
 use Rattle.pack_profile.specs.declared.Times.{Times}
 use Rattle.drive_record.specs.declared.Arm.{Arm}
+use Rattle.drive_record.specs.declared.Latched.{Latched}
 use Rattle.drive_record.specs.declared.Body.{Body}
 use Rattle.drive_record.specs.State.{stopped, starting, up, with-timers, with-arm, with-latched, with-sector, with-motor}
 use Rattle.word_acts.specs.declared.Act.{Act}
@@ -51,9 +53,13 @@ seekOf t to b =
 abbrev pub recalibrateOf : Times → Body → Body
 recalibrateOf t b = busyFor (t .recalibrate) (homedOf b)
 
+-- request 3: "While it stands, control 0 clears the other latched bits and leaves bit 1."
+unfoldable pub leftLatched : Body → Latched
+leftLatched b = record { 0 = if eqb (b .standing) 1 then bitAnd (b .latched .0) (2 ^ 1) else 0 }
+
 -- "0 clears latched bits"
 abbrev pub clearedOf : Body → Body
-clearedOf b = with-latched (record { 0 = 0 }) b
+clearedOf b = with-latched (leftLatched b) b
 
 -- "2 stops", "Stop when stopped .. do nothing"
 abbrev pub stopOf : Body → Body

@@ -8,7 +8,7 @@ use drive_record::Body;
 use drive_record::Latched;
 use pack_profile::Times;
 ghost use mathlib.Core.Path.{_≡_};
-ghost use Rattle.word_acts.specs.Acts.{distanceOf, seekTime, motorFor, busyFor, seekOf, homedOf, recalibrateOf, clearedOf, stopOf, startOf, offsetOf, sectorOf, actedOf};
+ghost use Rattle.word_acts.specs.Acts.{distanceOf, seekTime, motorFor, busyFor, seekOf, homedOf, recalibrateOf, leftLatched, clearedOf, stopOf, startOf, offsetOf, sectorOf, actedOf};
 
 // An offset is given by the arm's code.
 pub enum Act {
@@ -107,13 +107,22 @@ fn recalibrate(t: Times, b: Body) -> Body
     busy_for(homed(b), t.recalibrate)
 }
 
+// Of the latched bits, what control 0 leaves: bit 1 while a write fault stands.
+fn left_latched(b: Body) -> Latched
+    ensures { λ r. ⌜ r ≡ leftLatched b ⌝ }
+{
+    if b.standing == 1 {
+        return Latched(b.latched.0 & Latched::WRITE);
+    }
+    Latched(0)
+}
+
 // Control 0.
 fn clear(b: Body) -> Body
     ensures { λ r. ⌜ r ≡ clearedOf b ⌝ }
 {
     let mut e = b;
-    let none = Latched(0);
-    e.latched = none;
+    e.latched = left_latched(b);
     e
 }
 

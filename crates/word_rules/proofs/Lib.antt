@@ -2,4 +2,5 @@ pub mod WordLaws
 pub mod WordLimits
 pub mod SeekHere
 pub mod SectorRoom
+pub mod ControlZero
 pub mod Worked

@@ -27,9 +27,23 @@ latch-requires-3 c κs = search needs
 
 returns-3 : tie.Need-returns-3
 unfolding conditionOf
-returns-3 c = simp (ne-eqb _ _ (c .before .before .if1 .left), ne-eqb _ _ (c .before .if2 .left), c .latch3 .ensures)
+returns-3 c =
+    let b2 = c .before .before in
+    let b3 = b2 .before in
+    simp (ne-eqb _ _ (b3 .if1 .left), ne-eqb _ _ (b2 .if2 .left), eq-eqb _ _ (c .before .if3 .taken), c .latch3 .ensures)
+
+returns-4 : tie.Need-returns-4
+unfolding conditionOf
+returns-4 c = simp (ne-eqb _ _ (c .before .before .if1 .left), ne-eqb _ _ (c .before .if2 .left), ne-eqb _ _ (c .if3 .left))
 
 pub condition-spec : {M : Type 1} → statement M
 condition-spec =
     tie.close
-    (tie.spec latch-requires returns latch-requires-2 returns-2 latch-requires-3 returns-3)
+    (tie.spec
+    latch-requires
+    returns
+    latch-requires-2
+    returns-2
+    latch-requires-3
+    returns-3
+    returns-4)

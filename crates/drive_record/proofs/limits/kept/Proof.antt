@@ -22,22 +22,26 @@ sector-ok-requires c κs = search needs
 motor-ok-requires : tie.Need-motor-ok-requires
 motor-ok-requires c κs = search needs
 
+standing-ok-requires : tie.Need-standing-ok-requires
+standing-ok-requires c κs = search needs
+
 returns : tie.Need-returns
 unfolding limitsB
 returns c =
-    let b2 = c .before .before in
-    let b4 = b2 .before .before in
-    let b5 = b4 .before in
+    let b3 = c .before .before .before in
+    let b5 = b3 .before .before in
     let b6 = b5 .before in
     let b7 = b6 .before in
     let b8 = b7 .before in
+    let b9 = b8 .before in
     simp (
-      ← b8 .arm-ok .ensures,
-      ← b7 .timers-ok .ensures,
-      ← b6 .latched-ok .ensures,
-      ← b5 .soft .ensures,
-      ← b4 .sector-ok .ensures,
-      ← b2 .motor-ok .ensures,
+      ← b9 .arm-ok .ensures,
+      ← b8 .timers-ok .ensures,
+      ← b7 .latched-ok .ensures,
+      ← b6 .soft .ensures,
+      ← b5 .sector-ok .ensures,
+      ← b3 .motor-ok .ensures,
+      ← c .standing-ok .ensures,
     )
 
 pub kept-spec : {M : Type 1} → statement M
@@ -50,4 +54,5 @@ kept-spec =
     soft-requires
     sector-ok-requires
     motor-ok-requires
+    standing-ok-requires
     returns)
