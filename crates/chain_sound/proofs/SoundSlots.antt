@@ -15,7 +15,7 @@ use Rattle.counts.specs.Choice.{if_then_else_}
 use Rattle.counts.specs.Slots.{slotB, allWith}
 use Rattle.counts.proofs.Choice.{guarded}
 use Rattle.counts.proofs.Slots.{all-at}
-use Rattle.counts.proofs.Tests.{each, within-both}
+use Rattle.counts.proofs.Tests.{Each, each, within-both}
 use Rattle.pack_profile.specs.Profile.{mediumOf}
 use Rattle.pack_profile.specs.Valid.{validB}
 use Rattle.pack_read.specs.declared.Pack.{Pack}
@@ -84,19 +84,20 @@ module _ (p : Pack) (slot : ℕ) (at : Place) (h : placedOf p slot at .ok ≡ tr
       goes-on (ltb 1 (p .fitted)) (eqb (p .fitted) 1) (ltb longestFile (packEnd p)) (packB p slot at) at (packEnd p)
       (λ ok. omega (arith, eqb-true (p .place .0) (at .0) (each (packTests p slot at) ok .1 .0))) h
 
-  -- a fitted pack starts there, and the next at its end
-  stands-at : p .fitted ≡ 1 → (p .place .0 ≡ at .0) × (placedOf p slot at .end .0 ≡ packEnd p)
+  -- a fitted pack passes its tests, and the next starts at its end
+  passes : p .fitted ≡ 1 → Each (packTests p slot at) × (placedOf p slot at .end .0 ≡ packEnd p)
   unfolding placedOf
-  stands-at f =
+  passes f =
       let r = holds (ltb 1 (p .fitted)) (eqb (p .fitted) 1) (ltb longestFile (packEnd p)) (packB p slot at) at (packEnd p) h (eq-eqb _ _ f) in
-      (eqb-true _ _ (each (packTests p slot at) (r .0) .1 .0), r .1)
+      (each (packTests p slot at) (r .0), r .1)
+
+  starts : p .fitted ≡ 1 → p .place .0 ≡ at .0
+  starts f = eqb-true _ _ (passes f .0 .1 .0)
 
   stands : p .fitted ≡ 1 → InFile slot (placedOf p slot at .end .0) p
-  unfolding placedOf
   stands f =
-      let r = holds (ltb 1 (p .fitted)) (eqb (p .fitted) 1) (ltb longestFile (packEnd p)) (packB p slot at) at (packEnd p) h (eq-eqb _ _ f) in
-      let e = each (packTests p slot at) (r .0) in
-      record { own = eqb-true _ _ (e .0); valid = e .1 .1 .0; within = omega (arith, r .1) }
+      let e = passes f .0 in
+      record { own = eqb-true _ _ (e .0); valid = e .1 .1 .0; within = omega (arith, passes f .1) }
 
 ends : (packs : List Pack) (slot : ℕ) (at len : Place) → placesB packs slot at len ≡ true → at .0 ≤ len .0
 ends [] slot at len h = omega (arith, eqb-true (at .0) (len .0) h)
@@ -121,7 +122,7 @@ placed-at (p ∷ packs) slot at len (suc i) h f =
 later : (packs : List Pack) (slot : ℕ) (at len : Place) (i : ℕ) → placesB packs slot at len ≡ true → getD packs i noPack .fitted ≡ 1
     → at .0 ≤ getD packs i noPack .place .0
 later [] slot at len i h f = absurd (omega arith)
-later (p ∷ packs) slot at len zero h f = omega (arith, stands-at p slot at (guarded (placedOf p slot at .ok) _ h .0) f .0)
+later (p ∷ packs) slot at len zero h f = omega (arith, starts p slot at (guarded (placedOf p slot at .ok) _ h .0) f)
 later (p ∷ packs) slot at len (suc i) h f =
     let g = guarded (placedOf p slot at .ok) _ h in
     omega (arith, forward p slot at (g .0), later packs (slot + 1) (placedOf p slot at .end) len i (g .1) f)
@@ -133,7 +134,7 @@ in-order [] slot at len i j h f k lt = absurd (omega arith)
 in-order (p ∷ packs) slot at len i zero h f k lt = absurd (omega arith)
 in-order (p ∷ packs) slot at len zero (suc j) h f k lt =
     let g = guarded (placedOf p slot at .ok) _ h in
-    omega (arith, stands-at p slot at (g .0) f .1, later packs (slot + 1) (placedOf p slot at .end) len j (g .1) k)
+    omega (arith, passes p slot at (g .0) f .1, later packs (slot + 1) (placedOf p slot at .end) len j (g .1) k)
 in-order (p ∷ packs) slot at len (suc i) (suc j) h f k lt =
     let g = guarded (placedOf p slot at .ok) _ h in
     in-order packs (slot + 1) (placedOf p slot at .end) len i j (g .1) f k (omega arith)

@@ -23,13 +23,13 @@ latchBit k b = latchOf (2 ^ k) b
 abbrev pub losePosition : Body → Body
 losePosition b = with-arm (record { cylinder = b .arm .cylinder; offset = b .arm .offset; lost = 1 }) b
 
--- the conditions of kind 8; request 3: "Condition 1 now begins a fault and a new condition 4 ends it."
+-- the conditions of kind 8
 unfoldable pub conditionOf : ℕ → Body → Body
 conditionOf which b =
-    if eqb which 1 then with-standing 1 (latchBit 1 b)  -- "Condition 1 latches bit 1"
+    if eqb which 1 then with-standing 1 (latchBit 1 b)  -- "Condition 1 latches bit 1"; request 3: it "now begins a fault"
     else if eqb which 2 then with-reading 0 (losePosition (latchBit 4 b))  -- "2 latches bit 4, loses the position and ends reading"
     else if eqb which 3 then latchBit 0 b  -- "3 latches bit 0"
-    else with-standing 0 b
+    else with-standing 0 b  -- request 3: "a new condition 4 ends it"
 
 -- "bit 6, dropped. Dropping lowers acknowledge."
 abbrev pub droppedOf : Body → State

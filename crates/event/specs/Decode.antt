@@ -30,7 +30,7 @@ kindRow kind a b =
     else if leb kind 5 then ranged (isLevel a) (levelLine kind a)  -- "2, 3, 4, 5 | .. | 0/1"
     else if eqb kind 6 then ranged (isSpan a) (Pass (record { 0 = a }))  -- "6 | microseconds pass | 0..65,535"
     else if eqb kind 7 then ranged (isPosition a && isByte b) (Cell (record { 0 = a }) b)  -- "7 | data cell | position in track 0..65,535 | byte"
-    else ranged (slotB a && isCondition b) (Condition a b)  -- "8 | condition in a slot | slot 1..7 | 1 write fault, 2 seek error, 3 medium changed", request 3's 4
+    else ranged (slotB a && isCondition b) (Condition a b)  -- "8 | condition in a slot | slot 1..7 | 1 write fault, 2 seek error, 3 medium changed"; request 3 adds 4
 
 -- "Refusals 19 to 25 .. are tried in that order": 20 before 21
 unfoldable pub decodeOf : ℕ → ℕ → ℕ → Decoded

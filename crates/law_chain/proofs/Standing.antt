@@ -2,7 +2,7 @@
 use mathlib.Core.Path.{_≡_, refl, sym, ap, _∙_}
 use mathlib.Core.Bool.{Bool, true, false, _&&_, not}
 use mathlib.Core.List.{List, [], _∷_}
-use Prim.Native.Nat.{ℕ}
+use Prim.Native.Nat.{ℕ, _≤_}
 use native.Mathlib.Omega.{arith}
 use borrow.Author.Tests.{eqb-true, eqb-false, eq-eqb}
 use lib.Dec.{eqb}
@@ -19,11 +19,11 @@ use Rattle.drive_record.specs.Faults.{conditionOf}
 use Rattle.word_rules.specs.Rules.{refusesB, plainOf}
 use Rattle.word_rules.proofs.WordLaws.{word-leaves}
 use Rattle.word_rules.proofs.ControlZero.{controlZero, cleared}
-use Rattle.law_drive.proofs.LastingRules.{goes-on, stays-ended}
+use Rattle.law_drive.proofs.LastingRules.{stands-on, stays-ended}
 use Rattle.event.specs.declared.Event.{Event}
 use Rattle.event.specs.declared.Event.the-variants.{Condition}
 use Rattle.event.specs.declared.Decoded.{Decoded}
-use Rattle.event.specs.declared.Decoded.the-variants.{Is, Unknown, Range}
+use Rattle.event.specs.declared.Decoded.the-variants.{Is}
 use Rattle.event.specs.Operands.{isCondition}
 use Rattle.event.specs.Decode.{ranged, kindRow, decodeOf}
 use Rattle.chain_record.specs.declared.Chain.{Chain}
@@ -49,11 +49,11 @@ abbrev pub standingIn : Chain → ℕ → ℕ
 standingIn c k = slotState (c .states) k .body .standing
 
 -- the event is this condition in that slot
-abbrev pub Meets : ℕ → ℕ → Numbers → Type 0
-Meets k which n = decodeOf (n .kind) (n .a) (n .b) ≡ Is (Condition k which)
+abbrev pub ConditionIn : ℕ → ℕ → Numbers → Type 0
+ConditionIn k which n = decodeOf (n .kind) (n .a) (n .b) ≡ Is (Condition k which)
 
--- the flag has a value, and keeps it where no condition of the slot sets another
-module _ (v : ℕ) where
+-- the flag has a value, and keeps it through every condition of the slot but one
+module _ (v but : ℕ) where
   abbrev Keeps : Profile → Body → Body → Type 0
   Keeps p b e = b .standing ≡ v → e .standing ≡ v
 
@@ -68,22 +68,15 @@ module _ (v : ℕ) where
     then = λ p a b c first second is. second (first is);
   }
 
--- "Condition 1 now begins a fault and a new condition 4 ends it": no other event does either
-module _ (k : ℕ) (n : Numbers) where
-  range : (e : Event) (which : ℕ) → decodeOf (n .kind) (n .a) (n .b) ≡ Is e → e ≡ Condition k which → InRange (Condition k which)
-  range e which is same = rw same at (decoded-range (n .kind) (n .a) (n .b) e is)
+  module _ (others : (which : ℕ) (b : Body) → 1 ≤ which → which ≤ 4 → (which ≡ but → ⊥) → b .standing ≡ v → conditionOf which b .standing ≡ v) where
+    none-sets : (k : ℕ) (n : Numbers) → (ConditionIn k but n → ⊥) → Known Keeps NoneSets k n
+    none-sets k n q e is which same b =
+        let r : InRange (Condition k which) = rw same at (decoded-range (n .kind) (n .a) (n .b) e is) in
+        others which b (r .2) (r .3) (λ it. q (is ∙ ap Is (same ∙ ap (Condition k) it)))
 
-  not-ended : (Meets k 4 n → ⊥) → Known (Keeps 1) (NoneSets 1) k n
-  not-ended q e is which same b =
-      let r = range e which is same in
-      let other : which ≡ 4 → ⊥ = λ four. q (is ∙ ap Is (same ∙ ap (Condition k) four)) in
-      goes-on which b (r .2) (omega (arith, r .3))
-
-  not-begun : (Meets k 1 n → ⊥) → Known (Keeps 0) (NoneSets 0) k n
-  not-begun q e is which same b =
-      let r = range e which is same in
-      let other : which ≡ 1 → ⊥ = λ one. q (is ∙ ap Is (same ∙ ap (Condition k) one)) in
-      stays-ended which b (omega (arith, r .2))
+    none-set : (k : ℕ) (events : List Numbers) → Every (λ (n : Numbers). ConditionIn k but n → ⊥) events → Every (Known Keeps NoneSets k) events
+    none-set k [] q = tt
+    none-set k (n ∷ rest) q = (none-sets k n (q .0), none-set k rest (q .1))
 
 -- the byte that an event writes lies in the selected drive's medium
 written-in : (c : Chain) (i : ℕ) → Written c i → InMediumOf (slotPack (c .packs) (c .lines .select)) i
@@ -109,29 +102,29 @@ module _ (c : Chain) (file : List ℕ) (k i : ℕ) (f : fittedB (slotPack (c .pa
       by false e = absurd (elsewhere (changed-only c file i (n .kind) (n .a) (n .b) (eqb-false _ _ e)))
 
 -- the fault stands on, and the medium is as it was
-pub record Inhibited (k : ℕ) (d after : Lent) : Type 0 where
+pub record Untouched (k : ℕ) (d after : Lent) : Type 0 where
   pub stands : standingIn (after .chain) k ≡ 1
   pub medium : (i : ℕ) → InMediumOf (slotPack (d .chain .packs) k) i → getD (after .file) i 0 ≡ getD (d .file) i 0
 
-through-inhibited : (events : List Numbers) (d : Lent) (k : ℕ) → fittedB (slotPack (d .chain .packs) k) ≡ true → standingIn (d .chain) k ≡ 1
-    → Every (λ (n : Numbers). Meets k 4 n → ⊥) events → Inhibited k d (lentThrough events d)
+through-untouched : (events : List Numbers) (d : Lent) (k : ℕ) → fittedB (slotPack (d .chain .packs) k) ≡ true → standingIn (d .chain) k ≡ 1
+    → Every (λ (n : Numbers). ConditionIn k 4 n → ⊥) events → Untouched k d (lentThrough events d)
 unfolding stepOf applied
-through-inhibited [] d k f one q = record { stands = one; medium = λ i m. refl }
-through-inhibited (n ∷ rest) d k f one q =
-    let next = step-leaves (Keeps 1) (NoneSets 1) (leave 1) (d .chain) (d .file) k f n (not-ended k n (q .0)) one in
-    let later = through-inhibited rest (lentAfter n d) k f next (q .1) in
+through-untouched [] d k f one q = record { stands = one; medium = λ i m. refl }
+through-untouched (n ∷ rest) d k f one q =
+    let next = step-leaves (Keeps 1 4) (NoneSets 1 4) (leave 1 4) (d .chain) (d .file) k f n (none-sets 1 4 stands-on k n (q .0)) one in
+    let later = through-untouched rest (lentAfter n d) k f next (q .1) in
     record { stands = later .stands; medium = λ i m. later .medium i m ∙ unchanged (d .chain) (d .file) k i f one m n }
 
 -- any events, none of them condition 4 in that slot, on any chain and file
 pub standing-inhibits : (events : List Numbers) (d : Lent) (k : ℕ) → fittedB (slotPack (d .chain .packs) k) ≡ true → standingIn (d .chain) k ≡ 1
-    → Every (λ (n : Numbers). Meets k 4 n → ⊥) events → Inhibited k d (run events d .lent)
-standing-inhibits events d k f one q = through-inhibited events d k f one q
+    → Every (λ (n : Numbers). ConditionIn k 4 n → ⊥) events → Untouched k d (run events d .lent)
+standing-inhibits events d k f one q = through-untouched events d k f one q
 
 -- condition 4 in a slot
 abbrev pub ending : ℕ → Numbers
 ending k = record { kind = 8; a = k; b = 4 }
 
-ending-is : (k : ℕ) → slotB k ≡ true → Meets k 4 (ending k)
+ending-is : (k : ℕ) → slotB k ≡ true → ConditionIn k 4 (ending k)
 unfolding decodeOf kindRow ranged
 ending-is k b = rw b
 
@@ -144,45 +137,42 @@ module _ (d : Lent) (s : SoundOver d) (k : ℕ) (f : fittedB (slotPack (d .chain
       rw (ending-is k slot, s .formed, eq-eqb _ _ (s .long), f)
       (ap (λ (x : State). x .body .standing) (put-same (d .chain .states) k _ slot (slot-room (d .chain) (s .formed) k f)))
 
-  pub ended-run : (events : List Numbers) → Every (λ (n : Numbers). Meets k 1 n → ⊥) events
+  pub ended-run : (events : List Numbers) → Every (λ (n : Numbers). ConditionIn k 1 n → ⊥) events
       → standingIn (run (ending k ∷ events) d .lent .chain) k ≡ 0
   unfolding stepOf applied
-  ended-run events q = run-leaves (Keeps 0) (NoneSets 0) (leave 0) events (lentAfter (ending k) d) k f (known events q) ended
-    where
-      known : (events : List Numbers) → Every (λ (n : Numbers). Meets k 1 n → ⊥) events → Every (Known (Keeps 0) (NoneSets 0) k) events
-      known [] q = tt
-      known (n ∷ rest) q = (not-begun k n (q .0), known rest (q .1))
+  ended-run events q =
+      run-leaves (Keeps 0 1) (NoneSets 0 1) (leave 0 1) events (lentAfter (ending k) d) k f (none-set 0 1 stays-ended k events q) ended
 
   -- then control 0, carried out there, clears bit 1 and every other
-  pub ended-cleared : (events : List Numbers) → Every (λ (n : Numbers). Meets k 1 n → ⊥) events → (p : Profile)
+  pub ended-cleared : (events : List Numbers) → Every (λ (n : Numbers). ConditionIn k 1 n → ⊥) events → (p : Profile)
       → refusesB (slotState (run (ending k ∷ events) d .lent .chain .states) k) ≡ false
       → plainOf p (slotState (run (ending k ∷ events) d .lent .chain .states) k) controlZero .state .body .latched .0 ≡ 0
   ended-cleared events q p taken = cleared p _ taken (ended-run events q)
 
 -- "Ending a fault that isn't standing does nothing."
 module _ (c : Chain) (file : List ℕ) (k : ℕ) (none : standingIn c k ≡ 0) where
-  abbrev Nothing : Decision → Type 0
-  Nothing d = (applied c d ≡ c) × (fileAfter (c .packs) (d .deed) file ≡ file)
+  abbrev AsWas : Decision → Type 0
+  AsWas d = (applied c d ≡ c) × (fileAfter (c .packs) (d .deed) file ≡ file)
 
-  unended : Nothing (conditionEvent c k 4)
+  unended : AsWas (conditionEvent c k 4)
   unfolding applied changedOf conditionEvent conditionAt conditionOf
   unended =
-      by-test Nothing (not (fittedB (slotPack (c .packs) k))) _ _ (λ _. (refl, refl)) λ _.
-      by-test Nothing (fixedChange (slotPack (c .packs) k) 4) _ _ (λ _. (refl, refl)) λ _.
-      (rw (as-was, put-back (c .states) k), refl)
+      by-test AsWas (not (fittedB (slotPack (c .packs) k))) _ _ (λ _. (refl, refl)) λ _.
+      by-test AsWas (fixedChange (slotPack (c .packs) k) 4) _ _ (λ _. (refl, refl)) λ _.
+      (rw (unset, put-back (c .states) k), refl)
     where
-      as-was : with-standing 0 (slotState (c .states) k .body) ≡ slotState (c .states) k .body
-      as-was = ap (λ (n : ℕ). with-standing n (slotState (c .states) k .body)) (sym none)
+      unset : with-standing 0 (slotState (c .states) k .body) ≡ slotState (c .states) k .body
+      unset = ap (λ (n : ℕ). with-standing n (slotState (c .states) k .body)) (sym none)
 
-  allowed : Nothing (allowedOf c (length file) (Condition k 4))
+  allowed : AsWas (allowedOf c (length file) (Condition k 4))
   unfolding allowedOf applied changedOf decideOf
   allowed =
-      by-test Nothing (not (chainSoundB c)) _ _ (λ _. (refl, refl)) λ _.
-      by-test Nothing (not (eqb (length file) (c .length .0))) _ _ (λ _. (refl, refl)) λ _. unended
+      by-test AsWas (not (chainSoundB c)) _ _ (λ _. (refl, refl)) λ _.
+      by-test AsWas (not (eqb (length file) (c .length .0))) _ _ (λ _. (refl, refl)) λ _. unended
 
-  decoded : Nothing (decodedOf c (length file) (decodeOf 8 k 4))
+  decoded : AsWas (decodedOf c (length file) (decodeOf 8 k 4))
   unfolding decodeOf kindRow ranged applied changedOf
-  decoded = by-test (λ (x : Decoded). Nothing (decodedOf c (length file) x)) (slotB k && isCondition 4) _ _ (λ _. allowed) (λ _. (refl, refl))
+  decoded = by-test (λ (x : Decoded). AsWas (decodedOf c (length file) x)) (slotB k && isCondition 4) _ _ (λ _. allowed) (λ _. (refl, refl))
 
   -- on any chain and file
   pub nothing-ended : (stepOf 8 k 4 c file .chain ≡ c) × (stepFile 8 k 4 c file ≡ file)

@@ -85,20 +85,20 @@ condition-size which b =
     or (eqb which 2) _ _ (λ _. refl) λ _.
     or (eqb which 3) _ _ (λ _. refl) λ _. refl
 
--- request 3: what a condition of the range leaves of a fault that stands, and of one that does not
-pub goes-on : (which : ℕ) (b : Body) → 1 ≤ which → which ≤ 3 → b .standing ≡ 1 → conditionOf which b .standing ≡ 1
+-- request 3: a fault that stands goes on through every condition but 4, and one that does not through every one but 1
+pub stands-on : (which : ℕ) (b : Body) → 1 ≤ which → which ≤ 4 → (which ≡ 4 → ⊥) → b .standing ≡ 1 → conditionOf which b .standing ≡ 1
 unfolding conditionOf latchOf
-goes-on which b least most one =
+stands-on which b least most other one =
     let or = by-test (λ (e : Body). e .standing ≡ 1) in
     or (eqb which 1) _ _ (λ _. refl) λ not-1.
     or (eqb which 2) _ _ (λ _. one) λ not-2.
     or (eqb which 3) _ _ (λ _. one) λ not-3. absurd (omega (arith, eqb-false which 1 not-1, eqb-false which 2 not-2, eqb-false which 3 not-3))
 
-pub stays-ended : (which : ℕ) (b : Body) → 2 ≤ which → b .standing ≡ 0 → conditionOf which b .standing ≡ 0
+pub stays-ended : (which : ℕ) (b : Body) → 1 ≤ which → which ≤ 4 → (which ≡ 1 → ⊥) → b .standing ≡ 0 → conditionOf which b .standing ≡ 0
 unfolding conditionOf latchOf
-stays-ended which b least none =
+stays-ended which b least most other none =
     let or = by-test (λ (e : Body). e .standing ≡ 0) in
-    or (eqb which 1) _ _ (λ is-1. absurd (omega (arith, eqb-true which 1 is-1))) λ _.
+    or (eqb which 1) _ _ (λ is-1. absurd (other (eqb-true which 1 is-1))) λ _.
     or (eqb which 2) _ _ (λ _. none) λ _.
     or (eqb which 3) _ _ (λ _. none) λ _. refl
 

@@ -90,9 +90,9 @@ module _ (p : Profile) (b : Body) (q : Parts p b) where
       least : (n : ℕ) → n ≤ 2 → latchedB (record { 0 = n }) ≡ true
       least n h = join _ _ (lt-ltb n 512 (omega arith)) (eq-eqb (bit n 2) 0 (omega arith))
 
-  left-standing : standingB (b .standing) (leftLatched b) ≡ true
+  left-tied : standingB (b .standing) (leftLatched b) ≡ true
   unfolding leftLatched
-  left-standing =
+  left-tied =
       by-test (λ (n : ℕ). standingB (b .standing) (record { 0 = n }) ≡ true) (eqb (b .standing) 1) _ _
       (λ one. join _ _ most (rw one (eq-eqb _ _ (and-bit (b .latched .0) 2 1 ∙ ap (λ (n : ℕ). bitAnd n 1) (stands-latched p b q (eqb-true _ _ one))))))
       (λ none. join _ _ most (rw none))
@@ -109,4 +109,4 @@ module _ (p : Profile) (b : Body) (q : Parts p b) where
 
   -- control 0
   pub clear-keeps : Parts p (with-latched (leftLatched b) b)
-  clear-keeps = search (left-latched, left-standing)
+  clear-keeps = search (left-latched, left-tied)
