@@ -1,9 +1,10 @@
 //! Nanoseconds an event, by kind, through C and by the twin, and of a plain check of the record, in one run;
-//! nanoseconds a fit, of a small and a large file; and the event lines of a
+//! nanoseconds a fit, of a small and a large file; a pack of 100 MB laid beside a plain memset; and the event lines of a
 //! run of the bus, for the runners to be timed on.
 //!
 //!     bench [EVENTS [CASE DRIVES WHO]]   EVENTS a case; one CASE alone, by ours, twin or limit, as for callgrind
 //!     bench fits N                       N fits of each file
+//!     bench lay N                        N packs laid, and N memsets, in turn
 //!     bench lines N                      N event lines on standard output
 
 #![cfg_attr(plain_main, no_main)]
@@ -133,6 +134,23 @@ fn fits(n: usize) {
     }
 }
 
+/// A medium of 100 MB laid through C, and as many bytes set to 0: the least of some turns each.
+fn lay(turns: usize) {
+    let p = twin::Profile { cylinders: 1_000, heads: 10, track: 10_000, ..twin::smallest_drive(1) };
+    let profile = esdi::profile_of(&p);
+    let mut part = vec![0xAAu8; twin::pack_length(&p) as usize];
+    let (mut ours, mut plain) = (f64::MAX, f64::MAX);
+    for _ in 0..turns {
+        let start = Instant::now();
+        assert_eq!(esdi::lay(&profile, kept(&mut part[..])), 0);
+        ours = ours.min(start.elapsed().as_secs_f64());
+        let start = Instant::now();
+        kept(&mut part[..]).fill(0);
+        plain = plain.min(start.elapsed().as_secs_f64());
+    }
+    println!("a pack of {} bytes laid: ms through C {:.3}, of a memset {:.3}, ratio {:.3}", part.len(), ours * 1e3, plain * 1e3, ours / plain);
+}
+
 /// Event lines that select, send words, pass time and move cells.
 fn lines(n: usize) {
     use std::io::Write;
@@ -153,6 +171,9 @@ fn run() {
     }
     if arguments.first().map_or(false, |s| s == "fits") {
         return fits(arguments[1].parse().expect("a number"));
+    }
+    if arguments.first().map_or(false, |s| s == "lay") {
+        return lay(arguments[1].parse().expect("a number"));
     }
     let n: usize = arguments.first().map(|s| s.parse().expect("a number")).unwrap_or(1_000_000);
     let only: Option<usize> = arguments.get(1).map(|s| s.parse().expect("a case"));

@@ -378,6 +378,16 @@ pub fn read_answer(file: &[u8]) -> (u8, usize) {
     }
 }
 
+/// Request 4: "Zero the medium first and write the trailer after it, its back
+/// distance last of all." As we read it: ahead of all that the form's byte is
+/// zeroed, so that an older pack which ended here is none any more.
+pub fn lay_writes(p: &Profile) -> impl Iterator<Item = (usize, u8)> {
+    let medium = medium_length(p) as usize;
+    let trailer = trailer_of_fields(p);
+    let spoil = std::iter::once((medium + 39, 0));
+    spoil.chain((0..medium).map(|at| (at, 0))).chain((0..TRAILER).map(move |at| (medium + at, trailer[at])))
+}
+
 /// "Laying a pack puts a zeroed medium, then the trailer, at the start of a
 /// lent part: 33, then 36, then 37 too little room, buffer untouched. Bytes
 /// past the pack stay." As we read it: 36 is the pack's own length over the
@@ -392,11 +402,9 @@ pub fn lay_pack(p: &Profile, part: &mut [u8]) -> (u8, usize) {
     if (part.len() as u64) < pack_length(p) {
         return (37, 0);
     }
-    let medium = medium_length(p) as usize;
-    for byte in part[..medium].iter_mut() {
-        *byte = 0;
+    for (place, byte) in lay_writes(p) {
+        part[place] = byte;
     }
-    part[medium..medium + TRAILER].copy_from_slice(&trailer_of_fields(p));
     (0, 0)
 }
 

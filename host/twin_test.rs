@@ -2745,6 +2745,61 @@ fn decision_05_and_06_laying() {
     assert!(short.iter().all(|byte| *byte == 0xAA));
 }
 
+/// What a card may hold before a pack of `p` is laid on it: nothing, garbage, an older pack of the same shape, one of
+/// another shape that ends at the same place, two packs in that room.
+fn former_contents(dice: &mut Dice, p: &Profile) -> Vec<Vec<u8>> {
+    let length = pack_length(p) as usize;
+    let drawn = |older: &Profile| {
+        let mut card = vec![0xAA; length];
+        card[length - 44..].copy_from_slice(&trailer_of_fields(older));
+        card
+    };
+    let older = Profile { slot: 7, protected: 1, ..*p };
+    let turned = Profile { cylinders: p.heads as u16, heads: p.cylinders as u8, ..older };
+    let mut two = file_of_packs(&[smallest_drive(1), smallest_drive(2)]);
+    let behind = two.len().saturating_sub(length);
+    two.drain(..behind);
+    let mut room = vec![0x55; length - two.len()];
+    room.append(&mut two);
+    let garbage = (0..length).map(|_| dice.next() as u8).collect();
+    vec![vec![0; length], garbage, drawn(&older), drawn(&turned), room]
+}
+
+#[test]
+fn request_4_a_card_pulled_while_a_pack_is_laid() {
+    let mut dice = Dice(44);
+    let (mut refused, mut finished) = (0u32, 0u32);
+    for _ in 0..40 {
+        let p = random_profile(&mut dice, 1, 2);
+        let mut last = vec![0; pack_length(&p) as usize];
+        assert_eq!(lay_pack(&p, &mut last), (0, 0));
+        for mut card in former_contents(&mut dice, &p) {
+            for (place, byte) in lay_writes(&p) {
+                card[place] = byte;
+                if read_answer(&card).0 == 0 {
+                    assert!(card == last);
+                    finished += 1;
+                } else {
+                    refused += 1;
+                }
+            }
+            assert!(card == last);
+        }
+    }
+    println!("pulled: {} refused, {} finished", refused, finished);
+    // The order: the form spoiled, the medium, the fields, "its back distance last of all".
+    let p = smallest_drive(1);
+    let places: Vec<usize> = lay_writes(&p).map(|(place, _)| place).collect();
+    assert_eq!(places, [4_134].into_iter().chain(0..4_139).collect::<Vec<usize>>());
+    // Without the spoiled form a card half laid looks finished: that is what the first write is for.
+    let mut card = vec![0xAA; pack_length(&p) as usize];
+    card[4_095..].copy_from_slice(&trailer_of_fields(&Profile { slot: 7, ..p }));
+    for (place, byte) in lay_writes(&p).skip(1).take(2_000) {
+        card[place] = byte;
+    }
+    assert_eq!(read_answer(&card), (0, 0));
+}
+
 #[test]
 fn pack_files_round_trip() {
     let mut dice = Dice(40);

@@ -260,7 +260,12 @@ uint64_t esdi_pack_at(struct esdi_pack *pack, const uint8_t *file, size_t length
 
 /* Lays a pack at the start of a part of a file: a zeroed medium and its trailer. 0, or 33 a field of the profile, 36
  * longer than 2,147,483,647 bytes, 37 too little room, tried in that order; then not a byte is written. Bytes past
- * the pack stay. */
+ * the pack stay.
+ *
+ * It writes in this order: the form, fifth byte from the pack's end, to 0; the medium; the trailer's first 40 bytes;
+ * the distance, its last four. So a card that is pulled meanwhile holds no pack that looks finished: cut at the pack's
+ * end it is refused, or it is the whole pack. A host that lays in memory and then copies to a card keeps that order on
+ * the card. Of a longer pack that stood there the trailer stays, past the new one's end: cut the file there first. */
 uint32_t esdi_lay(uint8_t *part, size_t length, const struct esdi_profile *profile);
 
 /* Fills a record with marks, a number of its own in each field of a struct, by which host/layout.c sees that the

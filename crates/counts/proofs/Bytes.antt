@@ -1,11 +1,11 @@
 -- Numbers as bytes and back, high byte first.
-use mathlib.Core.Path.{_≡_, refl, ap}
-use mathlib.Core.List.{List, [], _∷_}
+use mathlib.Core.Path.{_≡_, refl, ap, _∙_}
+use mathlib.Core.List.{List, [], _∷_, _++_}
 use Prim.Native.Nat.{ℕ, zero, suc, _+_, _*_, _/_, _%_, _<_}
 use native.Mathlib.Omega.{arith}
 use native.Mathlib.Nat.{div-div-eq-div-mul}
-use lib.ListN.{length, getD}
-use Rattle.counts.specs.Bytes.{Bytes}
+use lib.ListN.{length, getD, take}
+use Rattle.counts.specs.Bytes.{four, bytes4, Bytes}
 
 -- a number is what its bytes say
 pub one-back : (v : ℕ) → v < 256 → v % 256 ≡ v
@@ -52,3 +52,28 @@ module _ (t : List ℕ) (small : Bytes t) where
 
   pub second-of-four : (i j k l : ℕ) → (((getD t i 0 * 256 + getD t j 0) * 256 + getD t k 0) * 256 + getD t l 0) / 65_536 % 256 ≡ getD t j 0
   second-of-four i j k l = omega (arith, small i, small j, small k, small l)
+
+-- four bytes are those of the number that they say
+pub four-bytes : (t : List ℕ) → Bytes t → length t ≡ 4 → t ≡ bytes4 (four t 0)
+four-bytes t small n =
+    simp (last-byte t small, first-of-four t small, second-of-four t small, third-of-four t small)
+    (as-listed t ∙ ap (λ (k : ℕ). listed k (λ i. getD t i 0)) n)
+
+-- lists of bytes
+pub bytes-four : (v : ℕ) → Bytes (bytes4 v)
+bytes-four v zero = omega arith
+bytes-four v (suc zero) = omega arith
+bytes-four v (suc (suc zero)) = omega arith
+bytes-four v (suc (suc (suc zero))) = omega arith
+bytes-four v (suc (suc (suc (suc i)))) = omega arith
+
+pub bytes-take : (n : ℕ) (l : List ℕ) → Bytes l → Bytes (take n l)
+bytes-take zero l h i = omega arith
+bytes-take (suc n) [] h i = omega arith
+bytes-take (suc n) (x ∷ l) h zero = h zero
+bytes-take (suc n) (x ∷ l) h (suc i) = bytes-take n l (λ j. h (suc j)) i
+
+pub bytes-append : (a b : List ℕ) → Bytes a → Bytes b → Bytes (a ++ b)
+bytes-append [] b sa sb i = sb i
+bytes-append (x ∷ a) b sa sb zero = sa zero
+bytes-append (x ∷ a) b sa sb (suc i) = bytes-append a b (λ j. sa (suc j)) sb i

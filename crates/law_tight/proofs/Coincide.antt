@@ -4,8 +4,9 @@ use mathlib.Core.List.{List}
 use Prim.Native.Nat.{ℕ}
 use lib.ListN.{length}
 use Rattle.pack_lay.specs.Lay.{laidAnswer, laidBytes}
+use Rattle.pack_lay.specs.Order.{stagedBytes}
 use Rattle.chain_step.specs.Step.{performOf, stepOf, stepFile}
-use Rattle.law_tight.specs.Tight.{Contract, Tight, Leaving, EventOn, StepContract, PerformContract, LayingIn, LayContract}
+use Rattle.law_tight.specs.Tight.{Contract, Tight, Leaving, EventOn, StepContract, PerformContract, LayingIn, StagingIn, LayContract, StageContract}
 
 pub tight : {I O : Type 0} (C : Contract I O) (f : I → O) → ((i : I) (x : O) → C i x → x ≡ f i) → Tight C
 tight C f is i x y p q = is i x p ∙ sym (is i y q)
@@ -28,3 +29,7 @@ perform-tight =
 
 pub lay-tight : Tight LayContract
 lay-tight = tight-leaving (λ (i : LayingIn). laidAnswer (i .profile) (length (i .part))) (λ i. laidBytes (i .profile) (i .part))
+
+pub stage-tight : Tight StageContract
+stage-tight =
+    tight-leaving (λ (i : StagingIn). laidAnswer (i .laying .profile) (length (i .laying .part))) (λ i. stagedBytes (i .stage) (i .laying .profile) (i .laying .part))

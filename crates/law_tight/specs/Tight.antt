@@ -5,7 +5,9 @@ use mathlib.Core.List.{List}
 use lib.ListN.{length}
 use Rattle.pack_profile.specs.declared.Profile.{Profile}
 use Rattle.pack_lay.specs.declared.Laid.{Laid}
+use Rattle.pack_lay.specs.declared.stages.Stage.{Stage}
 use Rattle.pack_lay.specs.Lay.{laidAnswer, laidBytes}
+use Rattle.pack_lay.specs.Order.{stagedBytes}
 use Rattle.chain_step.specs.declared.Performed.{Performed}
 use Rattle.chain_step.specs.declared.Stepped.{Stepped}
 use Rattle.chain_step.specs.Step.{performOf, stepOf, stepFile}
@@ -46,6 +48,16 @@ pub record LayingIn : Type 0 where
   pub profile : Profile
   pub part : List ℕ
 
+-- one stage of that
+pub record StagingIn : Type 0 where
+  pub laying : LayingIn
+  pub stage : Stage
+
 -- `pack_lay::lay`
 abbrev pub LayContract : Contract LayingIn (Leaving Laid)
 LayContract i o = (o .result ≡ laidAnswer (i .profile) (length (i .part))) × (o .left ≡ laidBytes (i .profile) (i .part))
+
+-- `pack_lay::stages::lay_stage`
+abbrev pub StageContract : Contract StagingIn (Leaving Laid)
+StageContract i o =
+    (o .result ≡ laidAnswer (i .laying .profile) (length (i .laying .part))) × (o .left ≡ stagedBytes (i .stage) (i .laying .profile) (i .laying .part))

@@ -19,6 +19,7 @@ use Rattle.pack_read.specs.File.{packBytes, fileOf, Standing, slotsOf}
 use Rattle.pack_lay.specs.Lay.{packLength, laidPack, laidBytes}
 use Rattle.pack_lay.specs.LaidFile.{laidFile, zeroed, zeroedAll}
 use Rattle.pack_lay.proofs.Laying.{done}
+use Rattle.pack_lay.proofs.Staged.{laid-length}
 use Rattle.pack_lay.proofs.ReadLaid.{read-file}
 
 -- the pack of a zeroed medium is the pack laid
@@ -26,11 +27,6 @@ zeroed-bytes : (p : Profile) → packBytes (zeroed p) ≡ laidPack p
 zeroed-bytes p =
     let m = mediumOf (p .shape) in
     ap (λ (k : ℕ). replicate m 0 ++ trailerOf p (k + trailerLength)) (length-replicate {A = ℕ} m 0)
-
-pub laid-length : (p : Profile) → length (laidPack p) ≡ packLength p
-laid-length p =
-    let m = mediumOf (p .shape) in
-    length-append (replicate {A = ℕ} m 0) (trailerOf p (packLength p)) ∙ ap (λ (k : ℕ). k + trailerLength) (length-replicate {A = ℕ} m 0)
 
 zeroed-file : (ps : List Profile) → fileOf (zeroedAll ps) ≡ laidFile ps
 zeroed-file [] = refl
@@ -49,12 +45,12 @@ module _ (p q : Profile) (v : validB p ≡ true) (w : validB q ≡ true) (l : Li
 
   pub two-laid : length l ≡ packLength p + packLength q → length l ≤ longestFile → laidTwo ≡ laidFile (p ∷ q ∷ [])
   two-laid long small =
-      let first = done p l v (omega arith) (omega arith) .1 in
+      let first = done p l v (omega arith) (omega arith) in
       let rest : List ℕ = drop (packLength p) l in
       let room : length rest ≡ packLength q = length-drop (packLength p) l ∙ omega arith in
-      let second = done q rest w (omega arith) (omega arith) .1 in
+      let second = done q rest w (omega arith) (omega arith) in
       let none : drop (packLength q) rest ≡ [] = drop-of-length-le rest {i = packLength q} (omega arith) in
-      rw (← first, take-at (laidPack p) rest (packLength p) (laid-length p), drop-at (laidPack p) rest (packLength p) (laid-length p), ← second, none)
+      rw (first, take-at (laidPack p) rest (packLength p) (laid-length p), drop-at (laidPack p) rest (packLength p) (laid-length p), second, none)
 
   pub two-laid-read : p .slot < q .slot → length l ≡ packLength p + packLength q → length l ≤ longestFile
       → readAll laidTwo ≡ record { answer = answer.Whole; slots = slotsOf (zeroedAll (p ∷ q ∷ [])) 0 noPacks }

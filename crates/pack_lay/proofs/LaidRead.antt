@@ -13,6 +13,7 @@ use Rattle.pack_trailer.specs.Form.{trailerLength}
 use Rattle.counts.specs.declared.Place.{Place}
 use Rattle.counts.specs.Choice.{if_then_else_}
 use Rattle.counts.specs.Bytes.{Bytes}
+use Rattle.counts.proofs.Bytes.{bytes-take}
 use Rattle.counts.proofs.Choice.{never}
 use Rattle.pack_profile.specs.declared.Profile.{Profile}
 use Rattle.pack_profile.specs.Profile.{mediumOf}
@@ -32,6 +33,7 @@ use Rattle.pack_read.specs.Read.{lastPack, refusedAt, andInFront, readBack, rea
 use Rattle.pack_lay.specs.Lay.{packLength, laidPack, laidBytes}
 use Rattle.pack_read.specs.File.{Contents, packBytes, fileOf, firstSlot, Standing, slotsOf}
 use Rattle.pack_lay.proofs.Laying.{done}
+use Rattle.pack_lay.proofs.Staged.{laid-length}
 use Rattle.pack_read.proofs.Back.{Good, good, lastTrailer}
 use Rattle.pack_lay.proofs.ReadLaid.{read-file}
 
@@ -107,12 +109,6 @@ module _ (l : List ℕ) (small : Bytes l) (limit : ℕ) (s : Place) (p : Profile
             f .table ∙ sym (slots-more xs contents 0 found ∙ ap (λ (k : ℕ). slotsOf xs 0 (set found (p .slot - 1) (fittedPack (record { 0 = k }) p))) (omega arith));
       }
 
-bytes-take : (n : ℕ) (l : List ℕ) → Bytes l → Bytes (take n l)
-bytes-take zero l h i = omega arith
-bytes-take (suc n) [] h i = omega arith
-bytes-take (suc n) (x ∷ l) h zero = h zero
-bytes-take (suc n) (x ∷ l) h (suc i) = bytes-take n l (λ j. h (suc j)) i
-
 empty-list : (l : List ℕ) → length l ≡ 0 → l ≡ []
 empty-list [] e = refl
 empty-list (x ∷ l) e = absurd (omega arith)
@@ -169,7 +165,6 @@ laid-reads p l v small room =
     let x : Contents = record { profile = p; medium = replicate m 0 } in
     let n : length (replicate {A = ℕ} m 0) ≡ m = length-replicate m 0 in
     let same : fileOf (x ∷ []) ≡ laidPack p = append-nil (packBytes x) ∙ ap (λ (k : ℕ). replicate m 0 ++ trailerOf p (k + trailerLength)) n in
-    let long : length (laidPack p) ≡ packLength p = length-append (replicate {A = ℕ} m 0) (trailerOf p (packLength p)) ∙ ap (λ (k : ℕ). k + trailerLength) n in
     let r = ranges p v in
-    rw (← done p l v small room .1, take-at (laidPack p) (drop (packLength p) l) (packLength p) long, ← same)
-    (read-file (x ∷ []) (v, n, omega arith, tt) (omega (arith, ap length same)))
+    rw (done p l v small room, take-at (laidPack p) (drop (packLength p) l) (packLength p) (laid-length p), ← same)
+    (read-file (x ∷ []) (v, n, omega arith, tt) (omega (arith, ap length same, laid-length p)))

@@ -32,9 +32,12 @@ laidAnswer p room =
     else if ltb room (packLength p) then Refused Room
     else Done
 
+abbrev pub packTrailer : Profile → List ℕ
+packTrailer p = trailerOf p (packLength p)
+
 -- the zeroed medium and the trailer
 abbrev pub laidPack : Profile → List ℕ
-laidPack p = replicate (mediumOf (p .shape)) 0 ++ trailerOf p (packLength p)
+laidPack p = replicate (mediumOf (p .shape)) 0 ++ packTrailer p
 
 -- "buffer untouched. Bytes past the pack stay."
 abbrev pub afterLaying : Laid → Profile → List ℕ → List ℕ

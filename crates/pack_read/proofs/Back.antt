@@ -21,13 +21,13 @@ use Rattle.pack_trailer.specs.Fields.{profileOf, zerosB}
 use Rattle.pack_profile.specs.Valid.{validB}
 use Rattle.pack_read.specs.declared.Pack.{Pack}
 use Rattle.pack_read.specs.declared.Refusal.{Refusal}
-use Rattle.pack_read.specs.declared.Refusal.the-variants.{Short, Distance, Form, Field, Size, Order}
+use Rattle.pack_read.specs.declared.Refusal.the-variants.{Short, Distance, Form, Field, Size, Order, Large}
 use Rattle.pack_read.specs.declared.read.Packs.{Packs}
 use Rattle.pack_read.specs.declared.read.Last.{Last}
 use Rattle.pack_read.specs.declared.read.Last.the-variants.{Found, Refused}
 use Rattle.pack_read.specs.declared.read.Reading.the-variants as answer
-use Rattle.pack_read.specs.Packs.{fittedPack}
-use Rattle.pack_read.specs.Read.{verdictOf, checked, lastPack, refusedAt, readBack}
+use Rattle.pack_read.specs.Packs.{longestFile, noPacks, fittedPack}
+use Rattle.pack_read.specs.Read.{verdictOf, checked, lastPack, refusedAt, andInFront, readBack, readAll}
 
 -- a pack is found where the test did not refuse
 passed : (b : Bool) (why : Refusal) (y : Last) {s : Place} {p : Profile}
@@ -100,3 +100,21 @@ unfolding readBack
 reads-pack l limit found s p r e lt front zero h = absurd (not-suc-le-zero h)
 reads-pack l limit found s p r e lt front (suc k) h =
     rw (ne-eqb (length l) 0 (λ z. omega arith), e) (front k (omega (arith, length-take-le (s .0) l (omega arith))))
+
+-- a file that reads whole, and is not empty, ends in a pack
+pub record Ends (l : List ℕ) : Type 0 where
+  pub place : Place
+  pub profile : Profile
+  pub found : lastPack l 8 ≡ Found place profile
+
+pub ends : (l : List ℕ) → (length l ≡ 0 → ⊥) → readAll l .answer ≡ answer.Whole → Ends l
+unfolding readAll readBack
+ends l ne e = by-size (ltb longestFile (length l)) e
+  where
+    by-last : (r : Last) → lastPack l 8 ≡ r → andInFront (readBack (length l)) l noPacks r .answer ≡ answer.Whole → Ends l
+    by-last (Refused why) q c = absurd (never (cc))
+    by-last (Found s p) q c = record { place = s; profile = p; found = q }
+
+    by-size : (t : Bool) → (if t then refusedAt Large 0 else readBack (suc (length l)) l 8 noPacks) .answer ≡ answer.Whole → Ends l
+    by-size true c = absurd (never (cc))
+    by-size false c = by-last (lastPack l 8) refl (rw (ne-eqb (length l) 0 ne) at c)

@@ -20,6 +20,12 @@ pub const LENGTH: usize = 44;
 // The form that a trailer names.
 pub const FORM: u8 = 1;
 
+// Where in a trailer the form stands: the last of its fields.
+pub const FORM_PLACE: usize = 39;
+
+// Where in a trailer the distance begins, behind the fields.
+pub const DISTANCE_PLACE: usize = 40;
+
 // A byte of a trailer; past the end it reads 0, so nothing is asked of the caller.
 fn byte(t: &[u8], k: usize) -> u8
     ensures { λ r. ⌜ r ≡ byteOf (now (t .entry)) k ⌝ }

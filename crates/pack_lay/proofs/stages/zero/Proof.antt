@@ -1,4 +1,4 @@
--- `pack_lay::zero` meets its contract: after i turns the first i bytes are 0 and the rest are as they were.
+-- `pack_lay::stages::zero` meets its contract: after i turns the first i bytes are 0 and the rest are as they were.
 use mathlib.Core.Path.{_≡_, refl}
 use mathlib.Core.List.{_++_}
 use Prim.Native.Nat.{_-_, _≤_}
@@ -6,8 +6,8 @@ use native.Mathlib.Nat.{le-antisymm}
 use native.Mathlib.Omega.{arith}
 use lib.ListN.{length, replicate, drop, length-set}
 use borrow.Author.Fill.{fill-more}
-use Rattle.pack_lay.proofs.zero.Statement.{statement}
-use Rattle.pack_lay.proofs.zero.Tie as tie
+use Rattle.pack_lay.proofs.stages.zero.Statement.{statement}
+use Rattle.pack_lay.proofs.stages.zero.Tie as tie
 
 abbrev Inv-loop : tie.InvT-loop
 Inv-loop buffer₀ n i₀ buffer i =

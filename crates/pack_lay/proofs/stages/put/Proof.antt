@@ -1,17 +1,12 @@
--- `pack_lay::put` meets its contract: what is copied into the part, said of the whole.
-use mathlib.Core.Path.{ap, _∙_}
+-- `pack_lay::stages::put` meets its contract: what is copied into the part, said of the whole.
+use mathlib.Core.Path.{refl, ap, _∙_}
 use mathlib.Core.List.{List, _++_}
 use Prim.Native.Nat.{ℕ, _-_}
-use native.Mathlib.Omega.{arith}
 use lib.ListN.{length, take, drop}
-use Rattle.pack_trailer.specs.Form.{trailerLength}
 use Rattle.pack_lay.proofs.LaidLists.{put-in}
 use borrow.Author.Needs.{needs}
-use Rattle.pack_lay.proofs.put.Statement.{statement}
-use Rattle.pack_lay.proofs.put.Tie as tie
-
-slice-aggregate-copy : tie.Need-slice-aggregate-copy
-slice-aggregate-copy c = search needs
+use Rattle.pack_lay.proofs.stages.put.Statement.{statement}
+use Rattle.pack_lay.proofs.stages.put.Tie as tie
 
 sub-copy : tie.Need-sub-copy
 sub-copy c = search needs
@@ -33,13 +28,12 @@ returns c =
     let a = c .before .before .before .before .before .before .args in
     let b = a .buffer .now in
     ap (λ (e : List ℕ). take (a .at) b ++ (e ++ drop (length b - a .at) (drop (a .at) b))) (c .before .before .copy .ensures .1)
-    ∙ put-in b (a .t3) (a .at) trailerLength (omega arith)
+    ∙ put-in b (a .t .now) (a .at) (length (a .t .now)) refl
 
 pub put-spec : {M : Type 1} → statement M
 put-spec =
     tie.close
     (tie.spec
-    slice-aggregate-copy
     sub-copy
     part-copy-start
     part-copy-end
