@@ -8,18 +8,17 @@ use borrow.Author.Tests.{leb-true, leb-false}
 use lib.Dec.{leb}
 use lib.ListN.{length, take, drop, set, getD, replicate, length-append, length-set, length-replicate}
 use lib.Seq.{getD-append-add, getD-take, getD-drop, getD-set-same, drop-set-lt, take-append-add, length-take-le, drop-at}
-use Rattle.counts.specs.declared.Place.{Place}
-use Rattle.counts.specs.Bytes.{bytes4, Bytes}
+use Rattle.counts.specs.Bytes.{one, bytes4, Bytes}
 use Rattle.counts.proofs.Bytes.{four-bytes, bytes-four, bytes-take, bytes-append}
 use Rattle.pack_profile.specs.declared.Profile.{Profile}
 use Rattle.pack_profile.specs.Profile.{mediumOf}
+use Rattle.pack_profile.specs.Valid.{validB}
 use Rattle.pack_trailer.specs.Form.{trailerLength, formPlace, distancePlace}
 use Rattle.pack_trailer.specs.Fields.{profileOf}
 use Rattle.pack_trailer.proofs.RoundTrip.{read-laid}
-use Rattle.pack_read.specs.declared.read.Last.the-variants.{Found}
 use Rattle.pack_read.specs.declared.read.Reading.the-variants as answer
-use Rattle.pack_read.specs.Read.{lastPack, readAll}
-use Rattle.pack_read.proofs.Back.{good, lastTrailer, Ends, ends}
+use Rattle.pack_read.specs.Read.{readAll}
+use Rattle.pack_read.proofs.Back.{good, lastTrailer, ends}
 use Rattle.pack_lay.specs.declared.Laid.the-variants.{Done}
 use Rattle.pack_lay.specs.Lay.{packLength, laidAnswer, packTrailer, laidPack}
 use Rattle.pack_lay.specs.Order.{writesOf, written, pulledAfter}
@@ -31,6 +30,18 @@ take-short zero l = omega arith
 take-short (suc i) [] = omega arith
 take-short (suc i) (x ∷ l) = omega (arith, take-short i l)
 
+-- what ends in a trailer whose form is 0 is refused, whatever else stands there and in front of it
+pub spoiled-refused : (front x : List ℕ) (m : ℕ) → length x ≡ m + trailerLength → one x (m + formPlace) ≡ 0
+    → readAll (front ++ x) .answer ≡ answer.Whole → ⊥
+spoiled-refused front x m long spoiled whole =
+    let file = front ++ x in
+    let n = length-append front x in
+    let h = ends file (λ z. omega arith) whole in
+    let g = good file 8 (h .place) (h .profile) (h .found) in
+    let at : length file - trailerLength + formPlace ≡ length front + (m + formPlace) = omega arith in
+    let read : getD file (length file - trailerLength + formPlace) 0 ≡ 1 = sym (getD-drop (length file - trailerLength) file formPlace 0) ∙ g .form in
+    omega (arith, sym (rw at at read) ∙ getD-append-add front x (m + formPlace) 0, spoiled)
+
 module _ (p : Profile) where
   abbrev m : ℕ
   m = mediumOf (p .shape)
@@ -39,11 +50,11 @@ module _ (p : Profile) where
   fields = take distancePlace (packTrailer p)
 
   -- the pack but for its distance
-  abbrev undone : List ℕ
+  abbrev pub undone : List ℕ
   undone = replicate m 0 ++ fields
 
-  abbrev distance : List ℕ
-  distance = bytes4 (packLength p)
+  abbrev pub distance : List ℕ
+  distance = drop distancePlace (packTrailer p)
 
   undone-length : length undone ≡ m + distancePlace
   undone-length = length-append (replicate {A = ℕ} m 0) fields ∙ ap (λ (k : ℕ). k + distancePlace) (length-replicate {A = ℕ} m 0)
@@ -51,7 +62,30 @@ module _ (p : Profile) where
   laid-is : laidPack p ≡ undone ++ distance
   laid-is = sym (append-assoc (replicate m 0) fields distance)
 
-module _ (p : Profile) (front l : List ℕ) (ok : laidAnswer p (length l) ≡ Done) where
+  -- the trailer at the end of a file whose last bytes are the pack's but for the distance
+  trailer-there : (front y : List ℕ) → length y ≡ 4 → lastTrailer (front ++ (undone ++ y)) ≡ fields ++ y
+  trailer-there front y n =
+      let e : front ++ (undone ++ y) ≡ (front ++ replicate m 0) ++ (fields ++ y) =
+      ap (λ (b : List ℕ). front ++ b) (append-assoc (replicate m 0) fields y) ∙ sym (append-assoc front (replicate m 0) (fields ++ y)) in
+      let k = length ((front ++ replicate m 0) ++ (fields ++ y)) - trailerLength in
+      let long : length (front ++ replicate m 0) ≡ k =
+      omega (arith, length-append (front ++ replicate m 0) (fields ++ y), length-append fields y) in
+      rw e (drop-at (front ++ replicate m 0) (fields ++ y) k long)
+
+  -- where all but the distance is the pack's, any four bytes that read are its distance
+  pub finished : (front y : List ℕ) → validB p ≡ true → length y ≡ 4 → Bytes y → readAll (front ++ (undone ++ y)) .answer ≡ answer.Whole → y ≡ distance
+  unfolding profileOf
+  finished front y v n small whole =
+      let file = front ++ (undone ++ y) in
+      let long = length-append front (undone ++ y) in
+      let part = length-append undone y in
+      let h = ends file (λ z. omega arith) whole in
+      let g = good file 8 (h .place) (h .profile) (h .found) in
+      let t = trailer-there front y n in
+      let same : h .profile ≡ p = g .profile ∙ rw t (read-laid p (packLength p) v) in
+      four-bytes y small n ∙ ap bytes4 (rw (t, same) at (g .size))
+
+module _ (p : Profile) (l : List ℕ) (ok : laidAnswer p (length l) ≡ Done) where
   -- the form spoiled
   abbrev spoiled : List ℕ
   spoiled = set l (m p + formPlace) 0
@@ -73,14 +107,13 @@ module _ (p : Profile) (front l : List ℕ) (ok : laidAnswer p (length l) ≡ Do
   cut-length k = let r = room in length-take-le (packLength p) _ (omega (arith, length-written (take k (writesOf p)) l))
 
   -- until the form is written it is 0
-  no-form : (k : ℕ) → k ≤ m p + formPlace → getD (front ++ pulledAfter (suc k) p l) (length front + (m p + formPlace)) 0 ≡ 0
+  no-form : (k : ℕ) → k ≤ m p + formPlace → one (pulledAfter (suc k) p l) (m p + formPlace) ≡ 0
   no-form k few =
       let f = m p + formPlace in
       let r = room in
       let n : length (take k (laidPack p)) ≡ k = length-take-le k (laidPack p) (omega (arith, laid-length p)) in
       let there : k + (f - k) ≡ f = omega arith in
-      getD-append-add front (pulledAfter (suc k) p l) f 0
-      ∙ getD-take (packLength p) (written (take (suc k) (writesOf p)) l) f 0 (omega arith)
+      getD-take (packLength p) (written (take (suc k) (writesOf p)) l) f 0 (omega arith)
       ∙ ap (λ (s : List ℕ). getD s f 0) (so-far k k n)
       ∙ ap (λ (i : ℕ). getD (take k (laidPack p) ++ drop k spoiled) i 0) (sym (rw n there))
       ∙ getD-append-add (take k (laidPack p)) (drop k spoiled) (f - k) 0
@@ -116,47 +149,19 @@ module _ (p : Profile) (front l : List ℕ) (ok : laidAnswer p (length l) ≡ Do
         bytes-take 4 beside
         (bytes-append (take i (distance p)) _ (bytes-take i (distance p) (bytes-four (packLength p))) (λ j. rw getD-drop (small _)))
 
-  -- the trailer at the end of a file whose last bytes are the pack's but for the distance
-  trailer-there : (y : List ℕ) → length y ≡ 4 → lastTrailer (front ++ (undone p ++ y)) ≡ fields p ++ y
-  trailer-there y n =
-      let e : front ++ (undone p ++ y) ≡ (front ++ replicate (m p) 0) ++ (fields p ++ y) =
-      ap (λ (b : List ℕ). front ++ b) (append-assoc (replicate (m p) 0) (fields p) y) ∙ sym (append-assoc front (replicate (m p) 0) (fields p ++ y)) in
-      let k = length ((front ++ replicate (m p) 0) ++ (fields p ++ y)) - trailerLength in
-      let long : length (front ++ replicate (m p) 0) ≡ k =
-      omega (arith, length-append (front ++ replicate (m p) 0) (fields p ++ y), length-append (fields p) y) in
-      rw e (drop-at (front ++ replicate (m p) 0) (fields p ++ y) k long)
-
-  -- its fields are the profile's, so that the distance which is taken is the pack's length
-  distance-there : (y : List ℕ) → length y ≡ 4 → Bytes y → (s : Place) (q : Profile) → lastPack (front ++ (undone p ++ y)) 8 ≡ Found s q → y ≡ distance p
-  unfolding profileOf
-  distance-there y n small s q e =
-      let g = good _ 8 s q e in
-      let t = trailer-there y n in
-      let same : q ≡ p = g .profile ∙ rw t (read-laid p (packLength p) (may p (length l) ok .valid)) in
-      four-bytes y small n ∙ ap bytes4 (rw (t, same) at (g .size))
-
-  module _ (small : Bytes l) where
-    by-form : (k : ℕ) (t : Bool) → leb k (m p + formPlace) ≡ t → Ends (front ++ pulledAfter (suc k) p l) → pulledAfter (suc k) p l ≡ laidPack p
-    by-form k true few h =
-        let file = front ++ pulledAfter (suc k) p l in
-        let g = good file 8 (h .place) (h .profile) (h .found) in
-        let n = length-append front (pulledAfter (suc k) p l) in
-        let c = cut-length (suc k) in
-        let at : length file - trailerLength + formPlace ≡ length front + (m p + formPlace) = omega arith in
-        let read : getD file (length file - trailerLength + formPlace) 0 ≡ 1 = sym (getD-drop (length file - trailerLength) file formPlace 0) ∙ g .form in
-        absurd (omega (arith, rw at at read, no-form k (leb-true k (m p + formPlace) few)))
-    by-form k false many h =
-        let i = k - (m p + distancePlace) in
-        let e : k ≡ count i = omega (arith, leb-false k (m p + formPlace) many) in
-        let is : pulledAfter (suc k) p l ≡ undone p ++ take 4 (beside i) = ap (λ (j : ℕ). pulledAfter (suc j) p l) e ∙ fields-written i in
-        let last = distance-there (take 4 (beside i)) (four-left i) (beside-small i small) (h .place) (h .profile) (rw is at (h .found)) in
-        is ∙ ap (λ (y : List ℕ). undone p ++ y) last ∙ sym (laid-is p)
+  by-form : (front : List ℕ) → Bytes l → (k : ℕ) (t : Bool) → leb k (m p + formPlace) ≡ t
+      → readAll (front ++ pulledAfter (suc k) p l) .answer ≡ answer.Whole → pulledAfter (suc k) p l ≡ laidPack p
+  by-form front small k true few whole =
+      absurd (spoiled-refused front (pulledAfter (suc k) p l) (m p) (cut-length (suc k)) (no-form k (leb-true k (m p + formPlace) few)) whole)
+  by-form front small k false many whole =
+      let i = k - (m p + distancePlace) in
+      let e : k ≡ count i = omega (arith, leb-false k (m p + formPlace) many) in
+      let is : pulledAfter (suc k) p l ≡ undone p ++ take 4 (beside i) = ap (λ (j : ℕ). pulledAfter (suc j) p l) e ∙ fields-written i in
+      let last = finished p front (take 4 (beside i)) (may p (length l) ok .valid) (four-left i) (beside-small i small) (rw is at whole) in
+      is ∙ ap (λ (y : List ℕ). undone p ++ y) last ∙ sym (laid-is p)
 
 -- for any pack that may be laid, any bytes that stood there, any file in front, and any number of the writes but none
 pub pulled-reads : (p : Profile) (front l : List ℕ) → laidAnswer p (length l) ≡ Done → Bytes l → (count : ℕ) → 0 < count
     → readAll (front ++ pulledAfter count p l) .answer ≡ answer.Whole → pulledAfter count p l ≡ laidPack p
 pulled-reads p front l ok small zero some whole = absurd (omega arith)
-pulled-reads p front l ok small (suc k) some whole =
-    let n = length-append front (pulledAfter (suc k) p l) in
-    let c = cut-length p front l ok (suc k) in
-    by-form p front l ok small k (leb k (m p + formPlace)) refl (ends (front ++ pulledAfter (suc k) p l) (λ z. omega arith) whole)
+pulled-reads p front l ok small (suc k) some whole = by-form p l ok front small k (leb k (m p + formPlace)) refl whole
