@@ -1,7 +1,7 @@
 -- The four stages, one behind the other, are the laying.
 use mathlib.Core.Path.{_≡_, refl, sym, ap, _∙_}
 use mathlib.Core.Bool.{Bool, true, false, not}
-use mathlib.Core.List.{List, _∷_, _++_, append-assoc}
+use mathlib.Core.List.{List, [], _∷_, _++_, append-assoc}
 use Prim.Native.Nat.{ℕ, _+_, _≤_}
 use native.Mathlib.Omega.{arith}
 use borrow.Author.Tests.{ltb-false, not-false}
@@ -22,7 +22,7 @@ use Rattle.pack_lay.specs.declared.Laid.the-variants.{Done, Refused}
 use Rattle.pack_lay.specs.declared.stages.Stage.{Stage}
 use Rattle.pack_lay.specs.declared.stages.Stage.the-variants.{Spoil, Medium, Fields, Distance}
 use Rattle.pack_lay.specs.Lay.{packLength, laidAnswer, packTrailer, laidPack, afterLaying, laidBytes}
-use Rattle.pack_lay.specs.Order.{Write, from, stageWrites, writesOf, written, afterStage, stagedBytes}
+use Rattle.pack_lay.specs.Order.{Write, from, stageWrites, writesOf, written, afterWrites, stagedBytes, writesBefore}
 use Rattle.pack_lay.proofs.Written.{written-append, length-written, from-three, written-from, written-first}
 
 -- a pack is laid where no test refused it
@@ -67,33 +67,57 @@ module _ (p : Profile) where
       (written-first (laidPack p) (set l (mediumOf (p .shape) + formPlace) 0) (packLength p) (laid-length p) (omega (arith, length-set l (mediumOf (p .shape) + formPlace) 0))
       ∙ ap (λ (r : List ℕ). laidPack p ++ r) (drop-set-lt (packLength p) l (mediumOf (p .shape) + formPlace) 0 (omega arith)))
 
-  staged-length : (s : Stage) (a : Laid) (l : List ℕ) → length (afterStage a s p l) ≡ length l
-  staged-length s Done l = length-written (stageWrites s p) l
-  staged-length s (Refused why) l = refl
+  after-length : (a : Laid) (ws : List Write) (l : List ℕ) → length (afterWrites a ws l) ≡ length l
+  after-length Done ws l = length-written ws l
+  after-length (Refused why) ws l = refl
 
-  by-stages : (a : Laid) (l : List ℕ) → laidAnswer p (length l) ≡ a
-      → afterStage a Distance p (afterStage a Fields p (afterStage a Medium p (afterStage a Spoil p l))) ≡ afterLaying a p l
-  unfolding writesOf
-  by-stages (Refused why) l e = refl
-  by-stages Done l e =
-      sym (written-append (stageWrites Spoil p ++ stageWrites Medium p ++ stageWrites Fields p) (stageWrites Distance p) l
-      ∙ ap (λ (r : List ℕ). written (stageWrites Distance p) r) (written-append (stageWrites Spoil p ++ stageWrites Medium p) (stageWrites Fields p) l
-      ∙ ap (λ (r : List ℕ). written (stageWrites Fields p) r) (written-append (stageWrites Spoil p) (stageWrites Medium p) l)))
-      ∙ all-written l (may p (length l) e .fits)
+  after-none : (a : Laid) (l : List ℕ) → l ≡ afterWrites a [] l
+  unfolding written
+  after-none Done l = refl
+  after-none (Refused why) l = refl
 
-  -- each stage's stretch on what the one before left
-  pub staged : (l l₁ l₂ l₃ l₄ : List ℕ) → l₁ ≡ stagedBytes Spoil p l → l₂ ≡ stagedBytes Medium p l₁ → l₃ ≡ stagedBytes Fields p l₂
-      → l₄ ≡ stagedBytes Distance p l₃ → (laidAnswer p (length l₃) ≡ laidAnswer p (length l)) × (l₄ ≡ laidBytes p l)
-  unfolding stagedBytes laidBytes
-  staged l l₁ l₂ l₃ l₄ e₁ e₂ e₃ e₄ =
+  after-both : (a : Laid) (ws vs : List Write) (l : List ℕ) → afterWrites a vs (afterWrites a ws l) ≡ afterWrites a (ws ++ vs) l
+  after-both Done ws vs l = sym (written-append ws vs l)
+  after-both (Refused why) ws vs l = refl
+
+  after-all : (l : List ℕ) (a : Laid) → laidAnswer p (length l) ≡ a → afterWrites a (writesOf p) l ≡ afterLaying a p l
+  after-all l Done e = all-written l (may p (length l) e .fits)
+  after-all l (Refused why) e = refl
+
+  -- a stage writes its stretch behind the writes that were done, and is answered as the laying
+  further : (s : Stage) (ws : List Write) (l before after : List ℕ) → before ≡ afterWrites (laidAnswer p (length l)) ws l → after ≡ stagedBytes s p before
+      → (laidAnswer p (length before) ≡ laidAnswer p (length l)) × (after ≡ afterWrites (laidAnswer p (length l)) (ws ++ stageWrites s p) l)
+  unfolding stagedBytes
+  further s ws l before after e f =
       let a = laidAnswer p (length l) in
-      let n₁ : length l₁ ≡ length l = ap length e₁ ∙ staged-length Spoil a l in
-      let f₂ : l₂ ≡ afterStage a Medium p l₁ = e₂ ∙ ap (λ (k : ℕ). afterStage (laidAnswer p k) Medium p l₁) n₁ in
-      let n₂ : length l₂ ≡ length l = ap length f₂ ∙ staged-length Medium a l₁ ∙ n₁ in
-      let f₃ : l₃ ≡ afterStage a Fields p l₂ = e₃ ∙ ap (λ (k : ℕ). afterStage (laidAnswer p k) Fields p l₂) n₂ in
-      let n₃ : length l₃ ≡ length l = ap length f₃ ∙ staged-length Fields a l₂ ∙ n₂ in
-      let f₄ : l₄ ≡ afterStage a Distance p l₃ = e₄ ∙ ap (λ (k : ℕ). afterStage (laidAnswer p k) Distance p l₃) n₃ in
-      (ap (λ (k : ℕ). laidAnswer p k) n₃, f₄ ∙ rw (f₃, f₂, e₁) (by-stages a l refl))
+      let same : laidAnswer p (length before) ≡ a = ap (λ (k : ℕ). laidAnswer p k) (ap length e ∙ after-length a ws l) in
+      (same, f ∙ rw same (ap (λ (b : List ℕ). afterWrites a (stageWrites s p) b) e ∙ after-both a ws (stageWrites s p) l))
+
+-- each stage's turn comes behind the one before it, and the last leaves the laying
+module _ (p : Profile) (l : List ℕ) where
+  abbrev after : List Write → List ℕ
+  after ws = afterWrites (laidAnswer p (length l)) ws l
+
+  pub spoil-turn : l ≡ after (writesBefore Spoil p)
+  spoil-turn = after-none p (laidAnswer p (length l)) l
+
+  module _ (l₁ : List ℕ) (spoiled : l₁ ≡ stagedBytes Spoil p l) where
+    pub medium-turn : l₁ ≡ after (writesBefore Medium p)
+    medium-turn = further p Spoil (writesBefore Spoil p) l l l₁ spoil-turn spoiled .1
+
+    module _ (l₂ : List ℕ) (zeroed : l₂ ≡ stagedBytes Medium p l₁) where
+      pub fields-turn : l₂ ≡ after (writesBefore Fields p)
+      fields-turn = further p Medium (writesBefore Medium p) l l₁ l₂ medium-turn zeroed .1
+
+      module _ (l₃ : List ℕ) (filled : l₃ ≡ stagedBytes Fields p l₂) where
+        pub distance-turn : l₃ ≡ after (writesBefore Distance p)
+        distance-turn = further p Fields (writesBefore Fields p) l l₂ l₃ fields-turn filled .1
+
+        pub staged : (l₄ : List ℕ) → l₄ ≡ stagedBytes Distance p l₃ → (laidAnswer p (length l₃) ≡ laidAnswer p (length l)) × (l₄ ≡ laidBytes p l)
+        unfolding writesOf laidBytes
+        staged l₄ last =
+            let d = further p Distance (writesBefore Distance p) l l₃ l₄ distance-turn last in
+            (d .0, d .1 ∙ after-all p l (laidAnswer p (length l)) refl)
 
 -- what each stage's code leaves is its stretch
 module _ (p : Profile) (l : List ℕ) (m : ℕ) (is : m ≡ mediumOf (p .shape)) (fits : packLength p ≤ length l) where

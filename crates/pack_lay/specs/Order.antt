@@ -1,5 +1,6 @@
 -- Document 02, request 4: "Zero the medium first and write the trailer after it, its back distance last of all. The
 -- buffer's final bytes don't change."
+use mathlib.Core.Path.{_≡_}
 use Prim.Native.Nat.{ℕ, suc, _+_}
 use mathlib.Core.List.{List, [], _∷_, _++_}
 use lib.ListN.{length, replicate, take, drop, set}
@@ -38,13 +39,25 @@ unfoldable pub written : List Write → List ℕ → List ℕ
 written [] l = l
 written (w ∷ ws) l = written ws (set l (w .place) (w .byte))
 
--- a stage is refused as the laying is
-abbrev pub afterStage : Laid → Stage → Profile → List ℕ → List ℕ
-afterStage Done s p l = written (stageWrites s p) l
-afterStage (Refused why) s p l = l
+-- writes done where the pack may be laid, none where it is refused
+abbrev pub afterWrites : Laid → List Write → List ℕ → List ℕ
+afterWrites Done ws l = written ws l
+afterWrites (Refused why) ws l = l
 
 unfoldable pub stagedBytes : Stage → Profile → List ℕ → List ℕ
-stagedBytes s p l = afterStage (laidAnswer p (length l)) s p l
+stagedBytes s p l = afterWrites (laidAnswer p (length l)) (stageWrites s p) l
+
+-- what is written in front of a stage
+abbrev pub writesBefore : Stage → Profile → List Write
+writesBefore Spoil p = []
+writesBefore Medium p = stageWrites Spoil p
+writesBefore Fields p = stageWrites Spoil p ++ stageWrites Medium p
+writesBefore Distance p = stageWrites Spoil p ++ stageWrites Medium p ++ stageWrites Fields p
+
+-- a stage's turn: just that is done, on whatever stood there
+pub record Turn (s : Stage) (p : Profile) (l : List ℕ) : Type 0 where
+  pub former : List ℕ
+  pub is : l ≡ afterWrites (laidAnswer p (length former)) (writesBefore s p) former
 
 -- what a card holds that is pulled behind so many writes, cut at the pack's end
 abbrev pub pulledAfter : ℕ → Profile → List ℕ → List ℕ

@@ -2,7 +2,7 @@
 use mathlib.Core.Path.{sym, ap, _∙_}
 use borrow.Author.Needs.{needs}
 use Rattle.pack_lay.specs.declared.Laid.{Laid}
-use Rattle.pack_lay.specs.Order.{afterStage, stagedBytes}
+use Rattle.pack_lay.specs.Order.{stageWrites, afterWrites, stagedBytes}
 use Rattle.pack_lay.proofs.stages.lay_stage.Statement.{statement}
 use Rattle.pack_lay.proofs.stages.lay_stage.Tie as tie
 
@@ -29,7 +29,7 @@ returns c =
     let a = t .before .before in
     let s = a .before .before in
     let is = sym (t .enum-told .given .1) ∙ a .allowed .ensures in
-    (is, w .write .ensures ∙ ap (λ (x : Laid). afterStage x (s .args .s) (s .args .p) (s .args .buffer .now)) is)
+    (is, w .write .ensures ∙ ap (λ (x : Laid). afterWrites x (stageWrites (s .args .s) (s .args .p)) (s .args .buffer .now)) is)
 
 returns-2 : tie.Need-returns-2
 unfolding stagedBytes
@@ -37,7 +37,7 @@ returns-2 c =
     let a = c .before .before .before in
     let s = a .before .before in
     let is = sym (c .before .answer .given .1) ∙ a .allowed .ensures in
-    (is, ap (λ (x : Laid). afterStage x (s .args .s) (s .args .p) (s .args .buffer .now)) is)
+    (is, ap (λ (x : Laid). afterWrites x (stageWrites (s .args .s) (s .args .p)) (s .args .buffer .now)) is)
 
 pub lay-stage-spec : {M : Type 1} → statement M
 lay-stage-spec =
