@@ -1,6 +1,7 @@
 /* A card pulled while esdi_lay writes on it, as the library was compiled: its pages are shut but for the last two that
  * were written on, so that the next stops the laying, and at each stop the card is read. It must be refused, or be the
- * finished pack. The last page holds the distance alone, which goes last; the one before it the form, which goes first. */
+ * finished pack. The last page holds the distance alone, which goes last, and then it alone is open; the one before it
+ * holds the form, which goes first. */
 #include <signal.h>
 #include <stdio.h>
 #include <string.h>
@@ -25,14 +26,16 @@ static void stop(int number, siginfo_t *what, void *context) {
         signal(number, SIG_DFL);
         return;
     }
+    const int page = (int)(place / PAGE);
     shut();
     if (stops == 0)
-        first = (int)(place / PAGE);
+        first = page;
     else {
-        open_page(last);
+        if (page != DISTANCE)
+            open_page(last);
         wrong += ESDI_ANSWER(esdi_packs(card, LENGTH)) == ESDI_TAKEN && memcmp(card, finished, LENGTH) != 0;
     }
-    last = (int)(place / PAGE);
+    last = page;
     open_page(last);
     stops++;
 }
