@@ -1,11 +1,12 @@
 //! Nanoseconds an event, by kind, through C and by the twin, and of a plain check of the record, in one run;
-//! nanoseconds a fit, of a small and a large file; a pack of 100 MB laid beside a plain memset; and the event lines of a
-//! run of the bus, for the runners to be timed on.
+//! nanoseconds a fit, of a small and a large file; a pack of 100 MB laid beside a plain memset; and the event lines, or
+//! the capture, of a run of the bus, for the runners to be timed on.
 //!
 //!     bench [EVENTS [CASE DRIVES WHO]]   EVENTS a case; one CASE alone, by ours, twin or limit, as for callgrind
 //!     bench fits N                       N fits of each file
 //!     bench lay N                        N packs laid, and N memsets, in turn
 //!     bench lines N                      N event lines on standard output
+//!     bench capture N                    a capture of N samples on standard output
 
 #![cfg_attr(plain_main, no_main)]
 
@@ -164,10 +165,48 @@ fn lines(n: usize) {
     }
 }
 
+/// Microseconds from the sample before to an edge: a pause ahead of a select, so that the time splits, a gate a while
+/// behind the word, and the handshake at a host's pace.
+fn pace(kind: u32) -> u32 {
+    match kind {
+        0 => 100_000,
+        2 | 3 => 40,
+        _ => 5,
+    }
+}
+
+/// An exchange, over and over: the drive is selected, its attention cleared, its status fetched, and both gates are
+/// raised and lowered; then it is left. A sample an edge; the stamp runs over within the first thousands.
+fn capture(n: usize) {
+    use std::io::Write;
+    let mut events = cleared(1);
+    events.extend(word_bits(twin::with_parity(0x2000)));
+    events.extend((0..17).flat_map(|_| [(5, 1, 0), (5, 0, 0)]));
+    events.extend([(2, 1, 0), (2, 0, 0), (3, 1, 0), (3, 0, 0), (4, 0, 0), (0, 0, 0)]);
+    let mut edges: Vec<(u32, u16)> = Vec::new();
+    for (kind, a, _) in events {
+        let before = edges.last().map_or(0, |edge| edge.1);
+        let levels = twin::levels_with(before, kind, a).expect("a line");
+        if levels != before {
+            edges.push((pace(kind), levels));
+        }
+    }
+    let mut stamp = 0u32.wrapping_sub(1_000_000);
+    let mut out = std::io::BufWriter::new(std::io::stdout().lock());
+    for (wait, levels) in edges.iter().cycle().take(n) {
+        stamp = stamp.wrapping_add(*wait);
+        out.write_all(&twin::sample_of(stamp, *levels)).unwrap();
+    }
+    out.flush().unwrap();
+}
+
 fn run() {
     let arguments: Vec<String> = std::env::args().skip(1).collect();
     if arguments.first().map_or(false, |s| s == "lines") {
         return lines(arguments[1].parse().expect("a number"));
+    }
+    if arguments.first().map_or(false, |s| s == "capture") {
+        return capture(arguments[1].parse().expect("a number"));
     }
     if arguments.first().map_or(false, |s| s == "fits") {
         return fits(arguments[1].parse().expect("a number"));

@@ -1,8 +1,8 @@
 //! The library, through C, against the twin. Random chains of all profiles,
 //! random and structured events; answer, value, lines, the whole record and
 //! the whole file are compared after each event. Then records with any bytes
-//! changed, files of another length, words at once, damaged pack files, packs laid, and a file over
-//! 2 GiB. A difference prints the shortest sequence found.
+//! changed, files of another length, words at once, captures, damaged pack files, packs laid, and a file over
+//! 2 GiB. A difference prints the shortest sequence, or capture, found.
 //!
 //!     differ [EVENTS [SEED]]
 
@@ -346,26 +346,30 @@ fn first_difference(profiles: &[twin::Profile], events: &[Event]) -> Option<(usi
     events.iter().enumerate().find_map(|(i, &e)| pair.event(e).err().map(|what| (i, what)))
 }
 
-/// The shortest sequence found: parts are left out for as long as a difference stays.
-fn report(profiles: &[twin::Profile], events: &[Event]) {
-    let end = first_difference(profiles, events).map_or(events.len(), |(i, _)| i + 1);
-    let mut kept: Vec<Event> = events[..end].to_vec();
+/// The fewest that are found to differ still: parts are left out, ever shorter ones.
+fn shortest<T: Clone>(all: &[T], differ: impl Fn(&[T]) -> bool) -> Vec<T> {
+    let mut kept = all.to_vec();
     let mut part = kept.len().max(1);
     while part > 0 {
         let mut i = 0;
         while i < kept.len() {
             let mut fewer = kept.clone();
             fewer.drain(i..(i + part).min(kept.len()));
-            match first_difference(profiles, &fewer) {
-                Some((at, _)) => {
-                    fewer.truncate(at + 1);
-                    kept = fewer;
-                }
-                None => i += part,
+            if differ(&fewer) {
+                kept = fewer;
+            } else {
+                i += part;
             }
         }
         part /= 2;
     }
+    kept
+}
+
+/// The shortest sequence found.
+fn report(profiles: &[twin::Profile], events: &[Event]) {
+    let end = first_difference(profiles, events).map_or(events.len(), |(i, _)| i + 1);
+    let kept = shortest(&events[..end], |fewer| first_difference(profiles, fewer).is_some());
     println!("DIFFERENCE on {:?}", profiles);
     for (kind, a, b) in &kept {
         println!("{} {} {}", kind, a, b);
@@ -377,11 +381,10 @@ fn report(profiles: &[twin::Profile], events: &[Event]) {
 
 // ---- records, words, packs
 
-/// A record with some bytes changed: refused with 22 and left as it was where it stands for nothing, else as the twin does.
-fn changed_record(dice: &mut Dice, pair: &Pair) -> Option<u8> {
+/// Some bytes of a record changed.
+fn change_bytes(dice: &mut Dice, record: &mut esdi::Chain) {
     const SIZE: usize = std::mem::size_of::<esdi::Chain>();
-    let mut record = pair.record;
-    let bytes = unsafe { &mut *(&mut record as *mut esdi::Chain as *mut [u8; SIZE]) };
+    let bytes = unsafe { &mut *(record as *mut esdi::Chain as *mut [u8; SIZE]) };
     for _ in 0..dice.pick(&[1, 1, 1, 2, 5, 40]) {
         let at = dice.upto(SIZE as u32 - 1) as usize;
         bytes[at] = match dice.upto(3) {
@@ -391,6 +394,24 @@ fn changed_record(dice: &mut Dice, pair: &Pair) -> Option<u8> {
             _ => dice.upto(255) as u8,
         };
     }
+}
+
+/// The record that the twin's chain leaves: an empty slot is not looked at, and stays as it was.
+fn record_after(before: &esdi::Chain, chain: &twin::Chain) -> esdi::Chain {
+    let mut after = esdi::record_of(chain);
+    for i in 0..7 {
+        if before.packs[i].fitted == 0 {
+            after.packs[i] = before.packs[i];
+            after.states[i] = before.states[i];
+        }
+    }
+    after
+}
+
+/// A record with some bytes changed: refused with 22 and left as it was where it stands for nothing, else as the twin does.
+fn changed_record(dice: &mut Dice, pair: &Pair) -> Option<u8> {
+    let mut record = pair.record;
+    change_bytes(dice, &mut record);
     let event = (dice.upto(8), dice.pick(&[0, 1, 1, 2, 7, 100]), dice.pick(&[0, 0, 0, 1, 3, 4]));
     let mut file = pair.file.clone();
     let before = record;
@@ -404,15 +425,7 @@ fn changed_record(dice: &mut Dice, pair: &Pair) -> Option<u8> {
         Some(mut chain) => {
             let mut twins = pair.file.clone();
             let answer = twin::step(&mut chain, &mut twins, event.0, event.1, event.2);
-            // an empty slot is not looked at, and stays as it was
-            let mut after = esdi::record_of(&chain);
-            for i in 0..7 {
-                if before.packs[i].fitted == 0 {
-                    after.packs[i] = before.packs[i];
-                    after.states[i] = before.states[i];
-                }
-            }
-            (answer, after, twins)
+            (answer, record_after(&before, &chain), twins)
         }
     };
     let shown = esdi::chain_of(&before).filter(|c| !twin::malformed(c)).map_or((22, 0), |c| (0, twin::line_sum(&c)));
@@ -424,15 +437,20 @@ fn changed_record(dice: &mut Dice, pair: &Pair) -> Option<u8> {
     None
 }
 
-/// A lent file of another length: refused with 23, behind 20 and 21; record and file are left.
-fn other_length(dice: &mut Dice, pair: &Pair) -> Option<u8> {
-    let event = (dice.upto(9), dice.pick(&[0, 1, 1, 2, 7, 100, 70_000]), dice.pick(&[0, 0, 0, 1, 3]));
-    let mut file = pair.file.clone();
+/// A file longer or shorter, by a byte or by all; an empty one stays so at times.
+fn change_length(dice: &mut Dice, file: &mut Vec<u8>) {
     match dice.upto(2) {
         0 => file.push(dice.upto(255) as u8),
         1 => file.truncate(file.len().saturating_sub(1)),
         _ => file.clear(),
     }
+}
+
+/// A lent file of another length: refused with 23, behind 20 and 21; record and file are left.
+fn other_length(dice: &mut Dice, pair: &Pair) -> Option<u8> {
+    let event = (dice.upto(9), dice.pick(&[0, 1, 1, 2, 7, 100, 70_000]), dice.pick(&[0, 0, 0, 1, 3]));
+    let mut file = pair.file.clone();
+    change_length(dice, &mut file);
     let (mut record, mut chain, mut twins) = (pair.record, pair.chain, file.clone());
     let ours = esdi::event(&mut record, &mut file, event.0, event.1, event.2);
     let theirs = twin::step(&mut chain, &mut twins, event.0, event.1, event.2);
@@ -534,6 +552,280 @@ fn laid(dice: &mut Dice) -> bool {
     false
 }
 
+// ---- captures
+
+/// A capture as an analyser takes it.
+struct Analyser {
+    stamp: u32,
+    levels: u16,
+    capture: Vec<u8>,
+}
+
+impl Analyser {
+    fn sample(&mut self) {
+        self.capture.extend(twin::sample_of(self.stamp, self.levels));
+    }
+
+    fn wait(&mut self, microseconds: u32) {
+        self.stamp = self.stamp.wrapping_add(microseconds);
+    }
+
+    /// What of an event is seen on the cable: a line's level, or time.
+    fn see(&mut self, (kind, a, _): Event) {
+        match twin::levels_with(self.levels, kind, a) {
+            Some(levels) => self.levels = levels,
+            None if kind == 6 && a <= 65_535 => self.wait(a),
+            None => (),
+        }
+    }
+}
+
+/// The first stamp: any, or one that runs over soon.
+fn some_stamp(dice: &mut Dice) -> u32 {
+    match dice.upto(2) {
+        0 => 0,
+        1 => 0u32.wrapping_sub(dice.upto(30_000)),
+        _ => dice.next() as u32,
+    }
+}
+
+/// Microseconds between two samples: few, some none, seldom about a multiple of 65,535.
+fn some_gap(dice: &mut Dice) -> u32 {
+    match dice.upto(399) {
+        0 => dice.between(1, 4) * 65_535 + dice.upto(2) - 1,
+        1..=60 => 0,
+        _ => dice.upto(12),
+    }
+}
+
+/// The first levels: the record's, all low, or any.
+fn some_levels(dice: &mut Dice, chain: &twin::Chain) -> u16 {
+    match dice.upto(3) {
+        0 => dice.upto(2_047) as u16,
+        1 => 0,
+        _ => twin::LINES.iter().zip(chain.levels()).fold(0, |so_far, (line, level)| so_far | (level << line.lowest) as u16),
+    }
+}
+
+/// Any samples at all.
+fn wild_samples(dice: &mut Dice, analyser: &mut Analyser) {
+    for _ in 0..dice.upto(60) {
+        analyser.levels = dice.upto(2_047) as u16;
+        analyser.sample();
+        analyser.wait(some_gap(dice));
+    }
+}
+
+/// A sample of any levels between two others: what a loose cable shows.
+fn glitch(dice: &mut Dice, analyser: &mut Analyser) {
+    let levels = analyser.levels;
+    analyser.levels = dice.upto(2_047) as u16;
+    analyser.sample();
+    analyser.levels = levels;
+}
+
+/// The samples of a host's events. Of some hosts the data changes with the request, of some a few lines change together.
+/// In one capture of a hundred a stamp seems to run back: some 65,536 passing events.
+fn host_samples(dice: &mut Dice, fitted: &[twin::Profile], analyser: &mut Analyser) {
+    let data_with_request = dice.one_in(2);
+    let (together, loose) = (dice.pick(&[8, 200, 10_000, 10_000]), dice.pick(&[50, 2_000, 10_000]));
+    let mut back = dice.one_in(100);
+    analyser.sample();
+    for event in some_events(dice, fitted) {
+        analyser.see(event);
+        if event.0 == 4 && data_with_request || dice.one_in(together) {
+            continue;
+        }
+        if dice.one_in(loose) {
+            glitch(dice, analyser);
+        }
+        analyser.sample();
+        analyser.wait(some_gap(dice));
+        if back && dice.one_in(100) {
+            analyser.stamp = analyser.stamp.wrapping_sub(dice.between(1, 100_000));
+            back = false;
+        }
+    }
+}
+
+fn some_capture(dice: &mut Dice, fitted: &[twin::Profile], chain: &twin::Chain) -> Vec<u8> {
+    let mut analyser = Analyser { stamp: some_stamp(dice), levels: some_levels(dice, chain), capture: Vec::new() };
+    match dice.upto(39) {
+        0 => (), // no sample at all
+        1..=4 => wild_samples(dice, &mut analyser),
+        _ => host_samples(dice, fitted, &mut analyser),
+    }
+    analyser.capture
+}
+
+/// A capture cut short, lengthened, or with some of bits 11 to 15 set: none any more, but seldom.
+fn damage_capture(dice: &mut Dice, capture: &mut Vec<u8>) {
+    let samples = capture.len() / twin::SAMPLE;
+    let bad = if samples == 0 { 0 } else { dice.upto(3) };
+    for _ in 0..bad {
+        let at = dice.upto(samples as u32 - 1) as usize * twin::SAMPLE + 4;
+        capture[at] |= 1 << dice.between(3, 7);
+    }
+    match dice.upto(3) {
+        0 => capture.truncate(capture.len().saturating_sub(dice.between(1, 5) as usize)),
+        1 => capture.extend(vec![0xF8; dice.between(1, 5) as usize]),
+        _ => (),
+    }
+}
+
+/// A capture, and what it is run on.
+struct Trial<'a> {
+    record: &'a esdi::Chain,
+    file: &'a [u8],
+    capture: &'a [u8],
+    /// Bytes lent for the answers.
+    room: usize,
+}
+
+/// Answers that no event gives, so that bytes left can be told.
+fn unanswered(room: usize) -> Vec<u8> {
+    (0..room).map(|i| 0x80 | i as u8).collect()
+}
+
+impl Trial<'_> {
+    /// The code of the capture and the answers, or what differs.
+    fn run(&self) -> Result<((u8, u64), Vec<u8>), String> {
+        let (mut record, mut file, mut answers) = (*self.record, self.file.to_vec(), unanswered(self.room));
+        let counted = esdi::capture_count(&record, self.capture);
+        let ours = esdi::capture(&mut record, &mut file, self.capture, &mut answers);
+        let (mut twins, mut expected) = (self.file.to_vec(), unanswered(self.room));
+        let (theirs, after) = match esdi::chain_of(self.record) {
+            // a record that stands for nothing: its lines are compared as the numbers they are
+            None => (twin::feed_capture(esdi::levels_of(self.record), self.capture, &mut expected, |_| (22, 0)), *self.record),
+            Some(mut chain) => {
+                let code = twin::run_capture(&mut chain, &mut twins, self.capture, &mut expected);
+                (code, record_after(self.record, &chain))
+            }
+        };
+        let count = twin::capture_count(esdi::levels_of(self.record), self.capture);
+        if ours != theirs {
+            return Err(format!("code {:?}, the twin's {:?}", ours, theirs));
+        }
+        if counted != count {
+            return Err(format!("count {:?}, the twin's {:?}", counted, count));
+        }
+        if let Some(at) = (0..self.room).find(|&i| answers[i] != expected[i]) {
+            return Err(format!("byte {} of the answers {}, the twin's {}", at, answers[at], expected[at]));
+        }
+        if record != after {
+            return Err(format!("record {:?}\n, the twin's {:?}", record, after));
+        }
+        if file != twins {
+            return Err("file".to_string());
+        }
+        Ok((ours, answers))
+    }
+
+    /// The shortest capture found, a sample a line.
+    fn report(&self) {
+        let samples: Vec<&[u8]> = self.capture.chunks(twin::SAMPLE).collect();
+        let differ = |fewer: &[&[u8]]| Trial { capture: &fewer.concat(), ..*self }.run().is_err();
+        let kept = shortest(&samples, differ);
+        println!("DIFFERENCE on a capture, {} bytes for the answers, a file of {} bytes, the record {:?}", self.room, self.file.len(), self.record);
+        show_capture(&kept.concat());
+        if let Err(what) = (Trial { capture: &kept.concat(), ..*self }).run() {
+            println!("{}", what);
+        }
+    }
+}
+
+fn show_capture(capture: &[u8]) {
+    for sample in capture.chunks(twin::SAMPLE) {
+        println!("{}", sample.iter().map(|byte| format!("{:02x}", byte)).collect::<String>());
+    }
+}
+
+/// What all the captures came to.
+#[derive(Default)]
+struct Captured {
+    captures: u64,
+    samples: u64,
+    events: u64,
+    over: u64,
+    codes: Tally,
+    answers: Tally,
+}
+
+impl Captured {
+    fn add(&mut self, capture: &[u8], (answer, number): (u8, u64), answers: &[u8]) {
+        self.captures += 1;
+        *self.codes.entry(answer).or_insert(0) += 1;
+        if answer != 0 {
+            return;
+        }
+        let stamps: Vec<&[u8]> = capture.chunks(twin::SAMPLE).map(|sample| &sample[..4]).collect();
+        self.samples += stamps.len() as u64;
+        self.over += stamps.windows(2).filter(|two| two[1] < two[0]).count() as u64;
+        self.events += number;
+        for pair in answers.chunks_exact(2).take(number as usize) {
+            *self.answers.entry(pair[0]).or_insert(0) += 1;
+        }
+    }
+}
+
+/// The answers to a capture that is run with just the room it asks for.
+fn answers_to(record: &mut esdi::Chain, file: &mut [u8], capture: &[u8]) -> Vec<u8> {
+    let mut answers = vec![0; 2 * esdi::capture_count(record, capture).1 as usize];
+    esdi::capture(record, file, capture, &mut answers);
+    answers
+}
+
+/// A capture cut at a sample, which ends the first part and begins the second, leaves a sound chain as the whole does.
+fn in_two_parts(dice: &mut Dice, pair: &Pair, capture: &[u8]) -> bool {
+    if capture.is_empty() {
+        return true;
+    }
+    let cut = dice.upto((capture.len() / twin::SAMPLE) as u32 - 1) as usize * twin::SAMPLE;
+    let (mut record, mut file) = (pair.record, pair.file.clone());
+    let whole = answers_to(&mut record, &mut file, capture);
+    let (mut parts, mut twice) = (pair.record, pair.file.clone());
+    let mut answers = answers_to(&mut parts, &mut twice, &capture[..cut + twin::SAMPLE]);
+    answers.extend(answers_to(&mut parts, &mut twice, &capture[cut..]));
+    if answers == whole && parts == record && twice == file {
+        return true;
+    }
+    println!("DIFFERENCE on a capture cut at byte {}, the record {:?}", cut, pair.record);
+    show_capture(capture);
+    false
+}
+
+/// A capture on a sound chain, with too little room, damaged, on a record with bytes changed, over a file of another
+/// length, and in two parts.
+fn captured(dice: &mut Dice, fitted: &[twin::Profile], pair: &Pair, seen: &mut Captured) -> bool {
+    let capture = some_capture(dice, fitted, &pair.chain);
+    let needed = 2 * twin::capture_count(pair.chain.levels(), &capture).1 as usize;
+    let room = needed + dice.pick(&[0, 0, 1, 2, 50]) as usize;
+    let short = needed.saturating_sub(dice.pick(&[1, 1, 2, 2_000_000]) as usize);
+    let (mut damaged, mut changed, mut resized) = (capture.clone(), pair.record, pair.file.clone());
+    damage_capture(dice, &mut damaged);
+    change_bytes(dice, &mut changed);
+    change_length(dice, &mut resized);
+    let sound = Trial { record: &pair.record, file: &pair.file, capture: &capture, room };
+    let trials = [
+        Trial { room: short, ..sound },
+        Trial { capture: &damaged, room: if dice.one_in(2) { room } else { short }, ..sound },
+        // its lines may differ too: six events more, or fewer
+        Trial { record: &changed, room: room + 12, ..sound },
+        Trial { file: &resized, ..sound },
+        sound,
+    ];
+    for trial in &trials {
+        match trial.run() {
+            Ok((code, answers)) => seen.add(trial.capture, code, &answers),
+            Err(_) => {
+                trial.report();
+                return false;
+            }
+        }
+    }
+    in_two_parts(dice, pair, &capture)
+}
+
 extern "C" {
     fn mmap(at: *mut u8, length: usize, protection: i32, flags: i32, file: i32, offset: i64) -> *mut u8;
 }
@@ -561,6 +853,7 @@ fn run() -> bool {
     let (most, mut dice) = (number(0, 10_000_000), Dice(number(1, 1)));
     let (mut events, mut records, mut words, mut files, mut lays) = (0u64, 0u64, 0u64, 0u64, 0u64);
     let (mut answers, mut lengths, mut changed) = (Tally::new(), Tally::new(), Tally::new());
+    let mut captures = Captured::default();
     while events < most {
         let profiles = some_profiles(&mut dice);
         let sequence = some_events(&mut dice, &profiles);
@@ -590,6 +883,11 @@ fn run() -> bool {
             }
         }
         events += sequence.len() as u64;
+        // behind every other sequence a capture, from where it ended or on a fresh chain
+        let start = if dice.one_in(2) { Pair::of(&profiles) } else { pair };
+        if dice.one_in(2) && !captured(&mut dice, &profiles, &start, &mut captures) {
+            return false;
+        }
         if !damaged_file(&mut dice) || !laid(&mut dice) {
             return false;
         }
@@ -600,7 +898,16 @@ fn run() -> bool {
     println!("answers to events, by number: {:?}", answers);
     println!("answers on records with bytes changed: {:?}", changed);
     println!("answers over a file of another length: {:?}", lengths);
-    large() & all_seen(&answers, &changed, &lengths)
+    println!(
+        "{} captures, of them 40 {} and 37 {}; run {} samples, {} events, the stamp ran over {} times: 0 differences",
+        captures.captures, count(&captures.codes, 40), count(&captures.codes, 37), captures.samples, captures.events, captures.over
+    );
+    println!("answers to events of captures: {:?}", captures.answers);
+    large() & all_seen(&answers, &changed, &lengths) & all_captured(&captures)
+}
+
+fn count(tally: &Tally, number: u8) -> u64 {
+    tally.get(&number).copied().unwrap_or(0)
 }
 
 /// Every number that an event can be answered has come, so that none went untried.
@@ -611,6 +918,17 @@ fn all_seen(answers: &Tally, changed: &Tally, lengths: &Tally) -> bool {
         return true;
     }
     println!("FAILED: never answered: {:?}{}; try more events", never, if refused { "" } else { ", 22 or 23" });
+    false
+}
+
+/// So has every number that a capture, and an event of one, can be answered; stamps have run over.
+fn all_captured(captures: &Captured) -> bool {
+    let never: Vec<u8> = [0, 37, 40].into_iter().filter(|n| !captures.codes.contains_key(n)).collect();
+    let unanswered: Vec<u8> = [0, 3, 4, 5, 22, 23].into_iter().filter(|n| !captures.answers.contains_key(n)).collect();
+    if never.is_empty() && unanswered.is_empty() && captures.over > 0 {
+        return true;
+    }
+    println!("FAILED: captures never answered {:?}, their events {:?}, stamps over {}; try more events", never, unanswered, captures.over);
     false
 }
 

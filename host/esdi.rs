@@ -124,6 +124,16 @@ impl PartialEq for Chain {
 extern "C" {
     fn esdi_fit(chain: *mut Chain, file: *const u8, length: usize) -> u64;
     fn esdi_event(chain: *mut Chain, file: *mut u8, length: usize, kind: u32, a: u32, b: u32) -> u32;
+    fn esdi_capture(
+        chain: *mut Chain,
+        file: *mut u8,
+        length: usize,
+        capture: *const u8,
+        capture_length: usize,
+        answers: *mut u8,
+        answers_length: usize,
+    ) -> u64;
+    fn esdi_capture_count(chain: *const Chain, capture: *const u8, capture_length: usize) -> u64;
     fn esdi_lines(chain: *const Chain) -> u32;
     fn esdi_word(chain: *mut Chain, slot: u32, word: u32) -> u64;
     fn esdi_packs(file: *const u8, length: usize) -> u64;
@@ -152,6 +162,20 @@ pub fn fit(chain: &mut Chain, file: &[u8]) -> (u8, usize) {
 pub fn event(chain: &mut Chain, file: &mut [u8], kind: u32, a: u32, b: u32) -> (u8, u8) {
     let code = unsafe { esdi_event(chain, file.as_mut_ptr(), file.len(), kind, a, b) };
     (code as u8, (code >> 8) as u8)
+}
+
+/// The answer's number, and how many events there are or the place of the bad sample.
+pub fn capture(chain: &mut Chain, file: &mut [u8], capture: &[u8], answers: &mut [u8]) -> (u8, u64) {
+    let code = unsafe {
+        esdi_capture(chain, file.as_mut_ptr(), file.len(), capture.as_ptr(), capture.len(), answers.as_mut_ptr(), answers.len())
+    };
+    (code as u8, code >> 8)
+}
+
+/// The same of a capture that isn't run.
+pub fn capture_count(chain: &Chain, capture: &[u8]) -> (u8, u64) {
+    let code = unsafe { esdi_capture_count(chain, capture.as_ptr(), capture.len()) };
+    (code as u8, code >> 8)
 }
 
 /// The answer's number and the sum of the lines.
@@ -270,6 +294,12 @@ pub fn record_of(c: &twin::Chain) -> Chain {
     };
     r.length = c.length as u32;
     r
+}
+
+/// The record's line levels in a capture's order, numbers that stand for no level too.
+pub fn levels_of(r: &Chain) -> twin::Levels {
+    let l = &r.lines;
+    [l.select as u32, l.heads as u32, l.readgate as u32, l.writegate as u32, l.command as u32, l.request as u32]
 }
 
 fn flag(n: impl Into<u32>) -> Option<bool> {

@@ -1814,6 +1814,182 @@ pub fn line_sum(chain: &Chain) -> u8 {
 }
 
 // ===========================================================================
+// Captures (request 2)
+// ===========================================================================
+
+/// "Each is three numbers: kind, a, b."
+pub type Event = (u32, u32, u32);
+
+/// Request 2: "a four-byte microsecond stamp that runs over at 2^32, then two
+/// bytes of line levels, high byte first", a "six-byte" sample.
+pub const SAMPLE: usize = 6;
+
+/// A line of a capture: the kind of its events, its lowest bit in the levels,
+/// and the highest level it can have.
+#[derive(Clone, Copy, Debug, PartialEq, Eq)]
+pub struct Line {
+    pub kind: u32,
+    pub lowest: u32,
+    pub most: u32,
+}
+
+const fn captured(kind: u32, lowest: u32, most: u32) -> Line {
+    Line { kind, lowest, most }
+}
+
+/// Request 2: "Lines changing in one sample are applied in a fixed order:
+/// select, head, read gate, write gate, data, request." That is their order
+/// in the levels too: "bits 0 to 2 are the select code, 3 to 6 the head lines,
+/// 7 read gate, 8 write gate, 9 data, 10 request".
+pub const LINES: [Line; 6] = [
+    captured(0, 0, 7),
+    captured(1, 3, 15),
+    captured(3, 7, 1),
+    captured(2, 8, 1),
+    captured(4, 9, 1),
+    captured(5, 10, 1),
+];
+
+/// The levels of the six lines, in that order.
+pub type Levels = [u32; 6];
+
+fn stamp_of(sample: &[u8]) -> u32 {
+    four_bytes(sample, 0)
+}
+
+fn levels_of(sample: &[u8]) -> Levels {
+    LINES.map(|line| two_bytes(sample, 4) as u32 >> line.lowest & line.most)
+}
+
+/// A sample's bytes.
+pub fn sample_of(stamp: u32, levels: u16) -> [u8; SAMPLE] {
+    let mut sample = [0; SAMPLE];
+    put_four(&mut sample, 0, stamp);
+    put_two(&mut sample, 4, levels);
+    sample
+}
+
+/// A sample's levels with one line at a new level; none where no line of that
+/// kind can have it.
+pub fn levels_with(levels: u16, kind: u32, level: u32) -> Option<u16> {
+    let line = LINES.iter().find(|line| line.kind == kind && level <= line.most)?;
+    let others = levels & !((line.most << line.lowest) as u16);
+    Some(others | (level << line.lowest) as u16)
+}
+
+/// Request 2: "40 capture not a whole number of six-byte samples or a sample
+/// with one of bits 11 to 15 set": are these bytes, the next six or all that
+/// is left, a sample?
+pub fn is_sample(bytes: &[u8]) -> bool {
+    bytes.len() == SAMPLE && two_bytes(bytes, 4) >> 11 == 0
+}
+
+/// Where the first sample that is none begins, an incomplete last one
+/// included; none where the bytes are a capture. As we read it: no bytes at
+/// all are one.
+pub fn capture_place(capture: &[u8]) -> Option<usize> {
+    capture.chunks(SAMPLE).position(|bytes| !is_sample(bytes)).map(|n| n * SAMPLE)
+}
+
+/// Request 2: "The time between two samples is the later stamp less the
+/// earlier, wrapping on purpose". "A pause of 2^32 µs or more can't be told".
+pub fn time_between(earlier: u32, later: u32) -> u32 {
+    later.wrapping_sub(earlier)
+}
+
+/// Request 2: "split into passing events of 65,535, the rest last if not 0".
+pub fn passing_events(time: u32) -> impl Iterator<Item = Event> {
+    let (whole, rest) = (time / 65_535, time % 65_535);
+    (0..whole).map(|_| (6, 65_535, 0)).chain((rest != 0).then_some((6, rest, 0)))
+}
+
+/// Request 2: "Lines changing in one sample are applied in a fixed order".
+pub fn line_events(before: Levels, after: Levels) -> impl Iterator<Item = Event> {
+    (0..LINES.len()).filter(move |&n| before[n] != after[n]).map(move |n| (LINES[n].kind, after[n], 0))
+}
+
+/// The cable as the sample before left it.
+#[derive(Clone, Copy, Debug, PartialEq, Eq)]
+pub struct Cable {
+    /// None ahead of the first sample.
+    pub stamp: Option<u32>,
+    pub levels: Levels,
+}
+
+impl Cable {
+    /// Ahead of a capture. As we read it: the first sample's lines differ from
+    /// the line levels in the record.
+    pub fn of(chain: &Chain) -> Cable {
+        Cable { stamp: None, levels: chain.levels() }
+    }
+
+    /// The events of the next sample: the time, then the lines. Request 2: "The
+    /// first sample sets its levels with no time passing."
+    pub fn sample(&mut self, sample: &[u8]) -> impl Iterator<Item = Event> {
+        let (before, stamp, levels) = (*self, stamp_of(sample), levels_of(sample));
+        *self = Cable { stamp: Some(stamp), levels };
+        let time = before.stamp.map_or(0, |earlier| time_between(earlier, stamp));
+        passing_events(time).chain(line_events(before.levels, levels))
+    }
+}
+
+impl Chain {
+    /// The line levels in the record.
+    pub fn levels(&self) -> Levels {
+        [
+            self.select as u32,
+            self.head_lines as u32,
+            self.read_gate as u32,
+            self.write_gate as u32,
+            self.command_data as u32,
+            self.request as u32,
+        ]
+    }
+}
+
+/// The events of a capture on lines at these levels, one at a time.
+pub fn capture_events(levels: Levels, capture: &[u8]) -> impl Iterator<Item = Event> + '_ {
+    let mut cable = Cable { stamp: None, levels };
+    capture.chunks(SAMPLE).flat_map(move |sample| cable.sample(sample))
+}
+
+/// How many events a capture has: 0 and their count, or 40 and the place of
+/// the first bad sample.
+pub fn capture_count(levels: Levels, capture: &[u8]) -> (u8, u64) {
+    match capture_place(capture) {
+        Some(place) => (40, place as u64),
+        None => (0, capture_events(levels, capture).count() as u64),
+    }
+}
+
+/// A capture's events fed one by one to whatever answers them, number and
+/// value of each answer put at their two bytes: 0 and how many events, or 40
+/// and the place, or 37 and how many there would be. As we read it: 37 is a
+/// buffer shorter than two bytes an event, after 40, and before the first
+/// event; bytes past the answers stay.
+pub fn feed_capture(levels: Levels, capture: &[u8], answers: &mut [u8], mut feed: impl FnMut(Event) -> (u8, u8)) -> (u8, u64) {
+    let (refused, number) = capture_count(levels, capture);
+    if refused != 0 {
+        return (refused, number);
+    }
+    if (answers.len() as u64) < 2 * number {
+        return (37, number);
+    }
+    for (event, pair) in capture_events(levels, capture).zip(answers.chunks_exact_mut(2)) {
+        let (answer, value) = feed(event);
+        pair.copy_from_slice(&[answer, value]);
+    }
+    (0, number)
+}
+
+/// Request 2: "The result is the chain, the pack file and each answer, equal
+/// to feeding the same events singly." "Refusals: 40 ... ahead of everything,
+/// chain and file as before."
+pub fn run_capture(chain: &mut Chain, file: &mut [u8], capture: &[u8], answers: &mut [u8]) -> (u8, u64) {
+    feed_capture(chain.levels(), capture, answers, |(kind, a, b)| step(chain, file, kind, a, b))
+}
+
+// ===========================================================================
 // Runner
 // ===========================================================================
 
@@ -1874,7 +2050,7 @@ fn number_of(digits: &[u8]) -> Option<u32> {
 
 /// "line isn't three decimal numbers up to 65,535, one space between", of a
 /// line without its newline.
-pub fn event_of_line(line: &[u8]) -> Option<(u32, u32, u32)> {
+pub fn event_of_line(line: &[u8]) -> Option<Event> {
     let parts: Vec<&[u8]> = line.split(|byte| *byte == b' ').collect();
     if parts.len() != 3 {
         return None;
@@ -1901,14 +2077,23 @@ impl Runner {
         Ok(Runner { chain, file, count: 0 })
     }
 
-    /// One input line without its newline. "Each output line: input line
-    /// count, answer, value, and the selected drive's lines as a sum".
+    /// One input line without its newline.
     pub fn line(&mut self, line: &[u8]) -> String {
+        match event_of_line(line) {
+            None => self.answered((19, 0)),
+            Some(event) => self.event(event),
+        }
+    }
+
+    fn event(&mut self, (kind, a, b): Event) -> String {
+        let answer = step(&mut self.chain, &mut self.file, kind, a, b);
+        self.answered(answer)
+    }
+
+    /// "Each output line: input line count, answer, value, and the selected
+    /// drive's lines as a sum".
+    fn answered(&mut self, (answer, value): (u8, u8)) -> String {
         self.count += 1;
-        let (answer, value) = match event_of_line(line) {
-            None => (19, 0),
-            Some((kind, a, b)) => step(&mut self.chain, &mut self.file, kind, a, b),
-        };
         format!("{} {} {} {}\n", self.count, answer, value, line_sum(&self.chain))
     }
 
@@ -1920,6 +2105,25 @@ impl Runner {
             output.push_str(&self.line(without_newline(line)));
         }
         output
+    }
+
+    /// Request 2, a capture's next sample. As we read it: an output line for
+    /// each of its events, as if its numbers had been typed.
+    pub fn sample<'a>(&'a mut self, cable: &mut Cable, sample: &[u8]) -> impl Iterator<Item = String> + 'a {
+        cable.sample(sample).map(move |event| self.event(event))
+    }
+
+    /// Request 2, a whole capture, or the place where it is none: 40.
+    pub fn capture(&mut self, capture: &[u8]) -> Result<String, usize> {
+        if let Some(place) = capture_place(capture) {
+            return Err(place);
+        }
+        let mut cable = Cable::of(&self.chain);
+        let mut output = String::new();
+        for sample in capture.chunks(SAMPLE) {
+            output.extend(self.sample(&mut cable, sample));
+        }
+        Ok(output)
     }
 }
 

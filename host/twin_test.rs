@@ -1944,8 +1944,6 @@ fn disturb_once(dice: &mut Dice, chain: &mut Chain) {
     }
 }
 
-type Event = (u32, u32, u32);
-
 fn random_event(dice: &mut Dice, chain: &Chain) -> Event {
     match dice.upto(24) {
         0 => (0, dice.upto(7), 0),
@@ -2946,6 +2944,489 @@ fn spoiled_pack_files() {
     for answer in [0, 30, 31, 32, 33, 34, 35].iter() {
         assert!(answers.contains_key(answer));
     }
+}
+
+// ===========================================================================
+// Captures
+// ===========================================================================
+
+const READ_GATE: u16 = 1 << 7;
+const WRITE_GATE: u16 = 1 << 8;
+const DATA: u16 = 1 << 9;
+const REQUEST: u16 = 1 << 10;
+/// What one more head adds to the levels.
+const HEAD: u16 = 1 << 3;
+
+const LOW: Levels = [0; 6];
+
+/// A capture of stamps and levels.
+fn capture_of(samples: &[(u32, u16)]) -> Vec<u8> {
+    samples.iter().flat_map(|&(stamp, levels)| sample_of(stamp, levels)).collect()
+}
+
+fn events_of(levels: Levels, samples: &[(u32, u16)]) -> Vec<Event> {
+    capture_events(levels, &capture_of(samples)).collect()
+}
+
+/// The rich bench with slot 2 selected and every other line low.
+fn quiet_bench() -> Bench {
+    let mut b = rich_bench();
+    assert_eq!(b.a(4, 0, 0), 0);
+    assert_eq!(b.chain.levels(), [2, 0, 0, 0, 0, 0]);
+    b
+}
+
+/// The lengths of the passing events between two stamps.
+fn passes(earlier: u32, later: u32) -> Vec<u32> {
+    let events = events_of(LOW, &[(earlier, 0), (later, 0)]);
+    assert!(events.iter().all(|e| e.0 == 6 && e.2 == 0));
+    events.iter().map(|e| e.1).collect()
+}
+
+impl Bench {
+    /// A capture with as much room as it asks for: the numbers and values of its answers.
+    fn capture(&mut self, capture: &[u8]) -> Vec<(u8, u8)> {
+        let (answer, count) = capture_count(self.chain.levels(), capture);
+        assert_eq!(answer, 0);
+        let mut answers = vec![0xEE; 2 * count as usize];
+        assert_eq!(run_capture(&mut self.chain, &mut self.file, capture, &mut answers), (0, count));
+        answers.chunks(2).map(|pair| (pair[0], pair[1])).collect()
+    }
+
+    /// The answers alone, to samples that come after as many microseconds each.
+    fn samples(&mut self, between: u32, levels: &[u16]) -> Vec<u8> {
+        let samples: Vec<(u32, u16)> = levels.iter().enumerate().map(|(n, l)| (n as u32 * between, *l)).collect();
+        let answers = self.capture(&capture_of(&samples));
+        assert!(answers.iter().all(|a| a.1 == 0));
+        answers.iter().map(|a| a.0).collect()
+    }
+
+    /// The capture is refused, and nothing of chain, file and answers changes.
+    fn refuses(&mut self, capture: &[u8], room: usize) -> (u8, u64) {
+        let before = self.clone();
+        let mut answers = vec![0xEE; room];
+        let code = run_capture(&mut self.chain, &mut self.file, capture, &mut answers);
+        assert!(code.0 == 40 || code.0 == 37);
+        assert!(self.chain == before.chain && self.file == before.file);
+        assert!(answers.iter().all(|byte| *byte == 0xEE));
+        code
+    }
+}
+
+#[test]
+fn request_2_time_is_split_into_passing_events() {
+    assert_eq!(passes(1_000, 1_000), []); // equal stamps: no event of 0
+    assert_eq!(passes(1_000, 1_001), [1]);
+    assert_eq!(passes(0, 65_534), [65_534]);
+    assert_eq!(passes(0, 65_535), [65_535]);
+    assert_eq!(passes(0, 65_536), [65_535, 1]);
+    assert_eq!(passes(7, 7 + 131_070), [65_535, 65_535]);
+    assert_eq!(passes(7, 7 + 131_071), [65_535, 65_535, 1]);
+    // The longest: 2^32 − 1 is 65,537 times 65,535.
+    assert_eq!(passes(0, u32::MAX), vec![65_535; 65_537]);
+    assert_eq!(passes(0, u32::MAX - 1), [vec![65_535; 65_536], vec![65_534]].concat());
+    // A stamp that runs over, and one that seems to run back.
+    assert_eq!(passes(u32::MAX, 0), [1]);
+    assert_eq!(passes(0xFFFF_FFF6, 4), [14]);
+    assert_eq!(passes(0xFFFF_0001, 0), [65_535]);
+    assert_eq!(passes(0xFFFF_0000, 0), [65_535, 1]);
+    assert_eq!(passes(1, 0).len(), 65_537);
+}
+
+#[test]
+fn request_2_the_passing_events_sum_to_the_time() {
+    let mut dice = Dice(2);
+    for n in 0..2_000u32 {
+        let earlier = dice.next() as u32;
+        let time = match n % 4 {
+            0 => dice.next() as u32 >> dice.upto(31),
+            1 => dice.upto(20) * 65_535 + dice.upto(2),
+            2 => (dice.upto(20) * 65_535).wrapping_sub(dice.upto(2)),
+            _ => dice.upto(70_000),
+        };
+        let parts = passes(earlier, earlier.wrapping_add(time));
+        assert_eq!(parts.iter().map(|part| *part as u64).sum::<u64>(), time as u64);
+        assert!(parts.iter().all(|part| *part > 0));
+        assert!(parts.iter().rev().skip(1).all(|part| *part == 65_535));
+    }
+    // Of a whole capture: its last stamp less its first, modulo 2^32, however often it runs over.
+    for _ in 0..200 {
+        let samples: Vec<(u32, u16)> = (0..dice.between(1, 8)).map(|_| (dice.next() as u32, dice.upto(2_047) as u16)).collect();
+        let events = events_of(LOW, &samples);
+        let sum = events.iter().filter(|e| e.0 == 6).fold(0u32, |sum, e| sum.wrapping_add(e.1));
+        assert_eq!(sum, samples[samples.len() - 1].0.wrapping_sub(samples[0].0));
+    }
+}
+
+#[test]
+fn request_2_lines_of_one_sample_in_their_order() {
+    let all = 5 | 9 * HEAD | READ_GATE | WRITE_GATE | DATA | REQUEST;
+    let up = [(0, 5, 0), (1, 9, 0), (3, 1, 0), (2, 1, 0), (4, 1, 0), (5, 1, 0)];
+    let down = [(0, 0, 0), (1, 0, 0), (3, 0, 0), (2, 0, 0), (4, 0, 0), (5, 0, 0)];
+    assert_eq!(events_of(LOW, &[(0, all)]), up);
+    // The time comes first, and nothing comes for a line that stays.
+    assert_eq!(events_of(LOW, &[(0, all), (3, 0)]), [&up[..], &[(6, 3, 0)], &down[..]].concat());
+    assert_eq!(events_of(LOW, &[(0, all), (3, all), (3, all ^ DATA)]), [&up[..], &[(6, 3, 0), (4, 0, 0)]].concat());
+    assert_eq!(events_of(LOW, &[(0, 5), (0, 2 | HEAD)]), [(0, 5, 0), (0, 2, 0), (1, 1, 0)]);
+    // The bytes: stamp, levels, high byte first; each line alone.
+    assert_eq!(sample_of(0x0102_0304, all), [1, 2, 3, 4, 7, 0xCD]);
+    let alone = |levels: u16| events_of(LOW, &[(0, levels)]);
+    assert_eq!(alone(7), [(0, 7, 0)]);
+    assert_eq!(alone(0x78), [(1, 15, 0)]);
+    assert_eq!(alone(0x80), [(3, 1, 0)]);
+    assert_eq!(alone(0x100), [(2, 1, 0)]);
+    assert_eq!(alone(0x200), [(4, 1, 0)]);
+    assert_eq!(alone(0x400), [(5, 1, 0)]);
+    // Every sample's levels, applied one by one, and put together again.
+    for levels in 0..2_048u16 {
+        let mut b = Bench::of(&[]);
+        b.capture(&capture_of(&[(0, levels)]));
+        let c = &b.chain;
+        assert_eq!((c.select as u16, c.head_lines as u16), (levels & 7, levels >> 3 & 15));
+        assert_eq!([c.read_gate, c.write_gate, c.command_data, c.request], [7, 8, 9, 10].map(|n| bit(levels, n)));
+        let together = alone(levels).iter().try_fold(0, |so_far, e| levels_with(so_far, e.0, e.1));
+        assert_eq!(together, Some(levels));
+    }
+    assert_eq!((levels_with(0, 0, 8), levels_with(0, 1, 16), levels_with(0, 5, 2)), (None, None, None));
+    assert_eq!((levels_with(0, 6, 0), levels_with(0, 7, 0), levels_with(0, 8, 1)), (None, None, None));
+}
+
+#[test]
+fn request_2_the_first_sample_passes_no_time() {
+    for stamp in [0, 1, 65_536, u32::MAX].iter() {
+        let mut b = quiet_bench();
+        b.word(0x0003);
+        b.a(4, 0, 0);
+        assert_eq!(b.capture(&capture_of(&[(*stamp, 2)])), []);
+        assert_eq!(b.d(2).busy, 121);
+        assert_eq!(b.capture(&capture_of(&[(*stamp, 2), (stamp.wrapping_add(1), 2)])), [(0, 0)]);
+        assert_eq!(b.d(2).busy, 120);
+        // Its lines differ from the record's, not from low ones.
+        let record = b.chain.levels();
+        assert_eq!(events_of(record, &[(*stamp, 2 | DATA)]), [(4, 1, 0)]);
+        assert_eq!(events_of(record, &[(*stamp, HEAD)]), [(0, 0, 0), (1, 1, 0)]);
+        assert_eq!(events_of(LOW, &[(*stamp, 2 | DATA)]), [(0, 2, 0), (4, 1, 0)]);
+    }
+}
+
+#[test]
+fn request_2_40_a_capture_that_is_none() {
+    let sound: Vec<(u32, u16)> = (0..4).map(|n| (n * 10, n as u16)).collect();
+    let capture = capture_of(&sound);
+    assert_eq!(capture_place(&capture), None);
+    // Any length but a multiple of six; the place is where the last, incomplete sample begins.
+    for length in 0..=capture.len() {
+        let place = length / 6 * 6;
+        let expected = if length % 6 == 0 { None } else { Some(place) };
+        assert_eq!(capture_place(&capture[..length]), expected);
+        if length % 6 != 0 {
+            assert_eq!(rich_bench().refuses(&capture[..length], 100), (40, place as u64));
+        }
+    }
+    // Each of bits 11 to 15 in each sample, and no other bit; any stamp will do.
+    for n in 0..4 {
+        for number in 0..16 {
+            let mut samples = sound.clone();
+            samples[n].1 = 1 << number;
+            samples[n].0 = u32::MAX;
+            let expected = if number < 11 { None } else { Some(n * 6) };
+            assert_eq!(capture_place(&capture_of(&samples)), expected);
+            if number >= 11 {
+                assert_eq!(rich_bench().refuses(&capture_of(&samples), 1_000_000), (40, n as u64 * 6));
+                assert_eq!(Runner::smallest().capture(&capture_of(&samples)), Err(n * 6));
+            }
+        }
+    }
+    // The first of several is named; of an incomplete one the levels aren't looked at.
+    let mut bad = capture_of(&[(0, 0), (1, 0x0800), (2, 0x8000), (3, 0xFFFF)]);
+    assert_eq!(capture_place(&bad), Some(6));
+    bad.truncate(11);
+    assert_eq!(capture_place(&bad), Some(6));
+    assert_eq!(capture_place(&capture_of(&[(0, 0xF800)])[..5]), Some(0));
+}
+
+#[test]
+fn request_2_40_and_37_change_nothing() {
+    // Select, then two passing events and a gate, then select and the gate again: two bytes each.
+    let capture = capture_of(&[(0, 5), (70_000, 5 | READ_GATE), (70_000, 2)]);
+    let mut spoiled = capture.clone();
+    spoiled[16] |= 0x80;
+    assert_eq!(capture_count(quiet_bench().chain.levels(), &capture), (0, 6));
+    for room in 0..12 {
+        assert_eq!(quiet_bench().refuses(&capture, room), (37, 6));
+        assert_eq!(quiet_bench().refuses(&spoiled, room), (40, 12)); // 40 comes first
+    }
+    assert_eq!(quiet_bench().refuses(&spoiled, 12), (40, 12));
+    let mut b = quiet_bench();
+    let mut answers = vec![0xEE; 15];
+    assert_eq!(run_capture(&mut b.chain, &mut b.file, &capture, &mut answers), (0, 6));
+    assert_eq!(answers, [0, 0, 0, 0, 0, 0, 0, 0, 0, 0, 0, 0, 0xEE, 0xEE, 0xEE]);
+    // "ahead of everything": of 22 and 23 too, and so is 37, which comes before the first event.
+    let mut b = quiet_bench();
+    b.chain.head_lines = 16;
+    b.file.push(0);
+    assert_eq!((b.refuses(&spoiled, 100), b.refuses(&capture, 13)), ((40, 12), (37, 7)));
+    // A pause of 71 minutes counts by its events.
+    let long = capture_of(&[(1, 0), (0, 0)]);
+    assert_eq!(Bench::of(&[]).refuses(&long, 2 * 65_537 - 1), (37, 65_537));
+}
+
+#[test]
+fn request_2_no_sample_at_all_is_a_capture() {
+    for malformed_too in [false, true].iter() {
+        let mut b = rich_bench();
+        if *malformed_too {
+            b.chain.head_lines = 77;
+        }
+        let before = b.clone();
+        for room in [0usize, 1, 9].iter() {
+            let mut answers = vec![0xEE; *room];
+            assert_eq!(run_capture(&mut b.chain, &mut b.file, &[], &mut answers), (0, 0));
+            assert!(answers.iter().all(|byte| *byte == 0xEE));
+        }
+        assert!(b.chain == before.chain && b.file == before.file);
+    }
+    assert_eq!(Runner::smallest().capture(&[]), Ok(String::new()));
+    assert_eq!(capture_count(LOW, &[]), (0, 0));
+}
+
+#[test]
+fn request_2_equal_stamps_pass_no_time() {
+    let mut b = quiet_bench();
+    b.word(0x0003);
+    b.a(4, 0, 0);
+    let samples = [2, 2 | DATA, 2, 2 | DATA].map(|levels| (4_000_000_000, levels));
+    assert_eq!(b.capture(&capture_of(&samples)), [(0, 0); 3]);
+    assert_eq!((b.d(2).busy, b.chain.command_data), (121, true));
+}
+
+#[test]
+fn request_2_gates_that_change_in_one_sample() {
+    // The write gate falls as the read gate rises: the read gate goes first, both are on, bit 6.
+    let mut b = quiet_bench();
+    assert_eq!(b.samples(0, &[2 | WRITE_GATE]), [0]);
+    assert!(b.d(2).writing);
+    assert_eq!(b.samples(0, &[2 | READ_GATE]), [5, 0]);
+    assert_eq!((b.d(2).latched, b.d(2).writing, b.d(2).reading), (B6, false, false));
+    // The other way about the read gate is off first, and writing begins.
+    let mut b = quiet_bench();
+    assert_eq!(b.samples(0, &[2 | READ_GATE]), [0]);
+    assert_eq!(b.samples(0, &[2 | WRITE_GATE]), [0, 0]);
+    assert_eq!((b.d(2).latched, b.d(2).writing), (0, true));
+    // Both rising: reading begins, and the write gate finds the read gate on.
+    let mut b = quiet_bench();
+    assert_eq!(b.samples(0, &[2 | READ_GATE | WRITE_GATE]), [0, 5]);
+    assert_eq!((b.d(2).latched, b.d(2).reading), (B6, false));
+    // A sample between them, at the same stamp, parts the two.
+    let mut b = quiet_bench();
+    assert_eq!(b.samples(0, &[2 | WRITE_GATE, 2, 2 | READ_GATE]), [0, 0, 0]);
+    assert_eq!((b.d(2).latched, b.d(2).reading), (0, true));
+}
+
+#[test]
+fn request_2_a_select_goes_before_the_request() {
+    // Request falls with a new select: the drive is left with its transfer open.
+    let mut b = quiet_bench();
+    assert_eq!(b.samples(0, &[2 | REQUEST]), [0]);
+    assert!(transfer_open(b.d(2)));
+    assert_eq!(b.samples(0, &[5]), [5, 0]);
+    assert_eq!((b.d(2).latched, b.d(2).transfer), (B6, Transfer::None));
+    assert_eq!((b.d(5).latched, b.d(5).transfer), (B8, Transfer::None));
+    // Even at the fall of the 17th bit: the word isn't carried out.
+    let mut b = quiet_bench();
+    b.bits(with_parity(0x0003), 16);
+    assert_eq!(b.samples(0, &[2 | DATA | REQUEST]), [0]); // the data line is up from bit 0
+    assert_eq!((b.d(2).count, b.d(2).bits), (17, with_parity(0x0003)));
+    assert_eq!(b.samples(0, &[5 | DATA]), [5, 0]);
+    assert_eq!((b.d(2).cylinder, b.d(2).latched), (0, B6));
+    // A rise with a new select is the new drive's, and takes the data of its own sample.
+    let mut b = quiet_bench();
+    assert_eq!(b.samples(0, &[5 | DATA | REQUEST]), [0, 0, 0]);
+    assert!(!transfer_open(b.d(2)));
+    assert_eq!((b.d(5).transfer, b.d(5).bits, b.d(5).count), (Transfer::Taking, 1, 1));
+    // New head lines with a new select are the new drive's; the drive left keeps its head.
+    let mut b = quiet_bench();
+    assert_eq!(b.samples(0, &[5 | HEAD]), [0, 0]);
+    assert_eq!((b.d(2).head, b.d(2).head_timer, b.d(5).head, b.d(5).head_timer), (0, 0, 1, 40));
+    // With request in that sample too, its rise finds the head timer running.
+    let mut b = quiet_bench();
+    assert_eq!(b.samples(0, &[5 | HEAD | REQUEST]), [0, 0, 5]);
+    assert_eq!(b.d(5).latched, B8 | B6);
+}
+
+/// The samples of seventeen bits to the drive in slot 2, the data with each rise, as many microseconds between the edges.
+fn bit_samples(stamp: &mut u32, between: u32, word17: u32) -> Vec<(u32, u16)> {
+    let mut samples = Vec::new();
+    for n in (0..17).rev() {
+        let data = if word17 >> n & 1 == 1 { DATA } else { 0 };
+        for levels in [2 | data | REQUEST, 2 | data].iter() {
+            *stamp = stamp.wrapping_add(between);
+            samples.push((*stamp, *levels));
+        }
+    }
+    samples
+}
+
+#[test]
+fn request_2_words_by_capture() {
+    // Status asked and fetched while the stamp runs over, up to 10,000 µs between two edges.
+    for between in [0, 1, 10, 9_999, 10_000].iter() {
+        let mut b = quiet_bench();
+        let mut runner = Runner { chain: b.chain, file: b.file.clone(), count: 0 };
+        let mut stamp = 0u32.wrapping_sub(150);
+        let mut samples = vec![(stamp, 2)];
+        samples.extend(bit_samples(&mut stamp, *between, with_parity(0x2000)));
+        samples.extend(bit_samples(&mut stamp, *between, 0));
+        let answers = b.capture(&capture_of(&samples));
+        assert!(answers.iter().all(|a| *a == (0, 0)));
+        assert_eq!((b.d(2).transfer, b.d(2).latched), (Transfer::None, 0));
+        // 0000h and its parity bit: the sum shows data from the last rise to the last fall, the wait between them too.
+        let output = runner.capture(&capture_of(&samples)).unwrap();
+        let sums: Vec<u8> = output.lines().map(|l| l.rsplit(' ').next().unwrap().parse().unwrap()).collect();
+        let shown: Vec<usize> = (1..=sums.len()).rev().filter(|back| sums[sums.len() - back] & 8 == 8).collect();
+        assert_eq!(shown, if *between == 0 { vec![2] } else { vec![3, 2] });
+        assert_eq!((sums.len(), sums.last()), (answers.len(), Some(&35)));
+    }
+    // One microsecond more, and the transfer is dropped in the first wait.
+    let mut b = quiet_bench();
+    let samples = bit_samples(&mut 0, 10_001, with_parity(0x2000));
+    assert_eq!(b.capture(&capture_of(&samples[..2])), [(0, 0), (5, 0), (0, 0)]);
+    assert_eq!((b.d(2).latched, b.d(2).transfer), (B6, Transfer::None));
+}
+
+/// Samples of a purposeful host: the lines of its plans, some together in one sample, and now and then any levels. What
+/// the chain is doing by then is found by running each plan's samples, from the last one before it.
+fn random_samples(dice: &mut Dice, mut host: Bench) -> Vec<(u32, u16)> {
+    let mut levels = if dice.coin() { 0 } else { dice.upto(2_047) as u16 };
+    let mut stamp = if dice.coin() { 0u32.wrapping_sub(dice.upto(5_000)) } else { dice.next() as u32 };
+    let mut samples = vec![(stamp, levels)];
+    for _ in 0..dice.upto(20) {
+        let from = samples.len() - 1;
+        let mut plan = plan_activity(dice, &host.chain);
+        while let Some((kind, a, _)) = plan.pop() {
+            match kind {
+                6 => stamp = stamp.wrapping_add(a.min(65_535)),
+                _ => levels = levels_with(levels, kind, a).unwrap_or(levels),
+            }
+            if dice.one_in(100) {
+                levels = dice.upto(2_047) as u16;
+            }
+            if kind != 4 && !dice.one_in(100) {
+                samples.push((stamp, levels));
+                stamp = stamp.wrapping_add(dice.pick(&[0, 1, 3, 10]));
+            }
+        }
+        if dice.one_in(20) {
+            stamp = stamp.wrapping_add(dice.between(1, 3) * 65_535 + dice.upto(2) - 1);
+        }
+        host.capture(&capture_of(&samples[from..]));
+    }
+    samples
+}
+
+#[test]
+fn request_2_equal_to_feeding_the_same_events_singly() {
+    let mut dice = Dice(22);
+    let (mut events, mut wraps, mut answered) = (0u64, 0u64, BTreeMap::new());
+    for _ in 0..400 {
+        let start = random_bench(&mut dice, 3);
+        let samples = random_samples(&mut dice, start.clone());
+        let capture = capture_of(&samples);
+        wraps += samples.windows(2).filter(|two| two[1].0 < two[0].0).count() as u64;
+            // Singly: the events are found here again, from the lines as they stand.
+        let mut singly = start.clone();
+        let mut typed = Runner { chain: start.chain, file: start.file.clone(), count: 0 };
+        let (mut expected, mut output) = (Vec::new(), String::new());
+        for (n, (stamp, levels)) in samples.iter().enumerate() {
+            let mut fed = Vec::new();
+            let mut left = if n == 0 { 0 } else { stamp.wrapping_sub(samples[n - 1].0) };
+            while left > 0 {
+                fed.push((6, left.min(65_535), 0));
+                left -= left.min(65_535);
+            }
+            let (l, c) = (*levels as u32, &singly.chain);
+            let lines = [
+                (0, c.select as u32, l % 8),
+                (1, c.head_lines as u32, l / 8 % 16),
+                (3, c.read_gate as u32, l / 128 % 2),
+                (2, c.write_gate as u32, l / 256 % 2),
+                (4, c.command_data as u32, l / 512 % 2),
+                (5, c.request as u32, l / 1_024),
+            ];
+            fed.extend(lines.iter().filter(|line| line.1 != line.2).map(|line| (line.0, line.2, 0)));
+            for (kind, a, b) in fed {
+                let (answer, value) = singly.ev(kind, a, b);
+                *answered.entry(answer).or_insert(0u64) += 1;
+                expected.extend([answer, value]);
+                output.push_str(&typed.line(format!("{} {} {}", kind, a, b).as_bytes()));
+            }
+        }
+        events += expected.len() as u64 / 2;
+        // At once: "The result is the chain, the pack file and each answer", and bytes past them stay.
+        let mut whole = start.clone();
+        let spare = dice.upto(3) as usize;
+        let mut answers = vec![0xEE; expected.len() + spare];
+        assert_eq!(run_capture(&mut whole.chain, &mut whole.file, &capture, &mut answers), (0, expected.len() as u64 / 2));
+        assert!(whole.chain == singly.chain && whole.file == singly.file);
+        assert_eq!(answers[..expected.len()], expected[..]);
+        assert_eq!(answers[expected.len()..], vec![0xEE; spare][..]);
+        if !expected.is_empty() {
+            assert_eq!(start.clone().refuses(&capture, expected.len() - 1), (37, expected.len() as u64 / 2));
+        }
+        // By the runner: its lines are those of the events typed.
+        let mut runner = Runner { chain: start.chain, file: start.file.clone(), count: 0 };
+        assert_eq!(runner.capture(&capture).unwrap(), output);
+        assert!(runner == typed);
+        // Cut at a sample, which ends the first part and begins the second.
+        let cut = 6 * dice.upto(samples.len() as u32 - 1) as usize;
+        let mut parts = start.clone();
+        let mut both = parts.capture(&capture[..cut + 6]);
+        both.extend(parts.capture(&capture[cut..]));
+        assert!(parts.chain == singly.chain && parts.file == singly.file);
+        assert_eq!(both.iter().flat_map(|a| [a.0, a.1]).collect::<Vec<u8>>(), expected);
+    }
+    println!("captures: {} events, {} stamps ran over, answers {:?}", events, wraps, answered);
+    assert!(wraps > 100);
+    for answer in [0, 3, 4, 5].iter() {
+        assert!(answered[answer] > 100, "answer {} hardly seen", answer);
+    }
+}
+
+#[test]
+fn request_2_22_and_23_are_the_events_answers() {
+    let capture = capture_of(&[(0, 2), (5, 2 | REQUEST), (5, 2)]);
+    // Over a file of another length each event is 23 and takes no level; the next sample's lines differ from the sample
+    // before all the same: the time, request up, request down.
+    let mut b = quiet_bench();
+    b.file.push(0);
+    let before = b.clone();
+    assert_eq!(b.capture(&capture), [(23, 0); 3]);
+    assert!(b.chain == before.chain && b.file == before.file);
+    // On a malformed record each is 22, ahead of them the head lines, which are 16 and not 0.
+    b.chain.head_lines = 16;
+    assert_eq!(b.capture(&capture), [(22, 0); 4]);
+    assert_eq!(b.chain, Chain { head_lines: 16, ..before.chain });
+    // A level over its limit differs from every level that a sample can have.
+    assert_eq!(events_of([8, 16, 0, 0, 0, 0], &[(0, 0)]), [(0, 0, 0), (1, 0, 0)]);
+}
+
+#[test]
+fn request_2_the_example() {
+    // The capture holds the lines of the events, 10 µs apart, and none of their cells.
+    let (capture, lines) = (include_bytes!("../examples/first.capture"), include_bytes!("../examples/first.events"));
+    let typed: Vec<Event> = lines.split(|byte| *byte == b'\n').filter_map(event_of_line).filter(|e| e.0 < 6).collect();
+    let events: Vec<Event> = capture_events(LOW, capture).collect();
+    assert_eq!(events.iter().filter(|e| e.0 < 6).cloned().collect::<Vec<Event>>(), typed);
+    assert!(events.iter().all(|e| e.0 < 6 || *e == (6, 10, 0)));
+    // Each line is answered as it is when typed, time apart: the drive waits for the host, not the host for it.
+    let answers_of = |runner: &mut Runner, events: &[Event]| -> Vec<String> {
+        let lines = events.iter().map(|e| (e.0, runner.line(format!("{} {} {}", e.0, e.1, e.2).as_bytes())));
+        let of_lines = lines.filter(|l| l.0 < 6).map(|l| l.1);
+        of_lines.map(|l| l.split_once(' ').unwrap().1.to_string()).collect()
+    };
+    let by_capture = answers_of(&mut Runner::smallest(), &events);
+    assert_eq!(by_capture, answers_of(&mut Runner::smallest(), &typed));
+    assert!(Runner::smallest().capture(capture).unwrap().starts_with("1 0 0 0\n2 0 0 51\n"));
 }
 
 // ===========================================================================

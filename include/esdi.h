@@ -1,9 +1,9 @@
 /* The command side of a replacement disk board: a chain of up to seven serial-mode ESDI drives on one control cable.
  *
  * Every function is proved: it takes any record, any file and any numbers, and says by a number what it refuses.
- * What C's own types say must hold: a pointer to a record, a pack or a profile points at one, and a file's pointer
- * at as many bytes as its length says (any pointer will do where the length is 0). What one call is lent may not
- * overlap.
+ * What C's own types say must hold: a pointer to a record, a pack or a profile points at one, and a file's pointer,
+ * a capture's or the answers' at as many bytes as its length says (any pointer will do where the length is 0). What one
+ * call is lent may not overlap.
  *
  * A record is plain data, without pointers or padding. It may be copied, kept and compared byte by byte. All zeros is
  * the empty chain: no drive, all lines low, a file of length 0. Fields may be read at any time; a record that was
@@ -42,7 +42,8 @@ enum esdi_answer {
     ESDI_SIZE = 34,         /* distance isn't cylinders x heads x track length + 44 */
     ESDI_ORDER = 35,        /* slots not rising through the file */
     ESDI_LARGE = 36,        /* over 2,147,483,647 bytes */
-    ESDI_ROOM = 37          /* too little room */
+    ESDI_ROOM = 37,         /* too little room, of a part or for answers */
+    ESDI_CAPTURE = 40       /* not a capture */
 };
 
 /* The kinds of events. Kinds 0 to 5 are the lines that the host drives, under their names in struct esdi_levels. */
@@ -222,12 +223,14 @@ static_assert(sizeof(struct esdi_chain) == 656, "the chain record doesn't lie in
 _Static_assert(sizeof(struct esdi_chain) == 656, "the chain record doesn't lie in memory as the library's");
 #endif
 
-/* A code taken apart: the answer in the low byte, the value in the next, a place or a response in the high half. */
+/* A code taken apart: the answer in the low byte, the value in the next, a place or a response in the high half; of a
+ * capture's code all above the low byte is a count. */
 #define ESDI_ANSWER(code) ((unsigned)((code) & 255))
 #define ESDI_VALUE(code) ((unsigned)((code) >> 8 & 255))
 #define ESDI_PLACE(code) ((uint32_t)((uint64_t)(code) >> 32))
 #define ESDI_RESPONDS(code) ((unsigned)((code) >> 8 & 1))
 #define ESDI_RESPONSE(code) ((uint32_t)((uint64_t)(code) >> 32))
+#define ESDI_COUNT(code) ((uint64_t)(code) >> 8)
 
 /* Fits a chain from a pack file: a fresh drive for each pack, all lines low.
  * 0 where the file is taken. Else the answer is 30 to 36, ESDI_PLACE the end of the pack that is refused (0 for 36),
@@ -238,6 +241,34 @@ uint64_t esdi_fit(struct esdi_chain *chain, const uint8_t *file, size_t length);
  * Answer 1 leaves the record and the file as they were; answer 2 leaves the record and writes one byte of the file;
  * 0, 3, 4 and 5 leave the file; 20 to 25 leave both. They are tried in the order of their numbers. */
 uint32_t esdi_event(struct esdi_chain *chain, uint8_t *file, size_t length, uint32_t kind, uint32_t a, uint32_t b);
+
+/* Runs a logic analyser's capture: samples of six bytes, a stamp in microseconds (four) and the lines' levels (two),
+ * high byte first. In the levels bits 0 to 2 are the select code, 3 to 6 the head lines, 7 read gate, 8 write gate, 9
+ * command data, 10 request. The record, the file and the answers are those of esdi_event, called for these events one
+ * after the other. For each sample but the first: the time since the one before, as ESDI_PASS of 65,535 as often as
+ * that goes, and one of the rest if it isn't 0. For each sample: every line whose level isn't that of the sample
+ * before, or of the record for the first sample, in the order of the bits. An event's answer takes two bytes of
+ * answers, first its ESDI_ANSWER, then its ESDI_VALUE; bytes past the last stay.
+ *
+ * ESDI_ANSWER is 0, 40 not a capture, or 37 answers shorter than two bytes an event; 40 is tried first, and both leave
+ * the record, the file and the answers as they were. A capture is whole samples, any number of them and none too, with
+ * 0 in bits 11 to 15 of the levels. ESDI_COUNT is the number of events, for 37 as well; for 40 it is the place, in
+ * bytes, where the first sample that is none begins. It is 2^56 - 1 where it would be more. What esdi_event refuses is
+ * no refusal here: on a record that is malformed, or with a file of another length, each event is answered 22 or 23.
+ *
+ * The stamp runs over at 2^32. A pause of 2^32 microseconds (71 min 35 s) or more between two samples can't be told:
+ * what is left of it is taken. Lines that change in one sample are taken in the order of the bits, whichever was first
+ * on the cable: a write gate that falls as the read gate rises meets it as both on, which is bit 6, and a request that
+ * falls as another drive is selected comes too late for its transfer, which is left open: bit 6 too.
+ *
+ * A capture may be run in parts. Cut at a sample, which ends the first part and begins the second, it gives the same
+ * as the whole, where the record isn't malformed and the file's length is the record's. */
+uint64_t esdi_capture(struct esdi_chain *chain, uint8_t *file, size_t length, const uint8_t *capture,
+                      size_t capture_length, uint8_t *answers, size_t answers_length);
+
+/* How many events a capture has, from the lines as they stand in the record: ESDI_ANSWER 0 and ESDI_COUNT, each asking
+ * for two bytes of answers; or 40 and the place, as of esdi_capture. No record is refused. */
+uint64_t esdi_capture_count(const struct esdi_chain *chain, const uint8_t *capture, size_t capture_length);
 
 /* What the selected drive shows: ESDI_ANSWER 0 and ESDI_VALUE a sum of the lines above, 0 where no fitted drive is
  * selected; or 22 record malformed. */

@@ -1,5 +1,5 @@
 -- The reply to an event line. Document 01, Runner: "Each output line: input line count, answer, value, and the selected drive's lines as a sum".
-use Prim.Native.Nat.{ℕ}
+use Prim.Native.Nat.{ℕ, _+_, _%_, _^_}
 use mathlib.Core.List.{List}
 use Rattle.event.specs.Answer.{answerNumber, answerValue}
 use Rattle.chain_record.specs.declared.Chain.{Chain}
@@ -9,6 +9,7 @@ use Rattle.chain_step.specs.Step.{stepOf, stepFile}
 use Rattle.bus_text.specs.declared.Line.{Line}
 use Rattle.bus_text.specs.declared.Line.the-variants.{Numbers, Unreadable}
 use Rattle.bus_text.specs.Whole.{unreadableNumber}
+use Rattle.bus_text.specs.AnswerLine.{answerLine}
 use Rattle.bus_reply.specs.declared.Reply.{Reply}
 
 -- "answer, value, and the selected drive's lines as a sum": those of the chain that the event leaves
@@ -30,3 +31,11 @@ replyOf c file Unreadable = unreadableReply c
 abbrev pub replyFile : Chain → List ℕ → Line → List ℕ
 replyFile c file (Numbers kind a b) = stepFile kind a b c file
 replyFile c file Unreadable = file
+
+-- "input line count": a count of 64 bits, which no run fills
+abbrev pub lineCount : ℕ → ℕ
+lineCount lines = (lines + 1) % 2 ^ 64
+
+-- "input line count, answer, value, and .. a sum"
+abbrev pub lineAnswer : ℕ → Reply → List ℕ
+lineAnswer lines r = answerLine lines (r .answer) (r .value) (r .sum)

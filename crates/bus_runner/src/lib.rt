@@ -1,8 +1,11 @@
-// The bus runner: fits a chain from a pack file and answers event lines. What is wrong goes to standard error.
+// The bus runner: fits a chain from a pack file and answers event lines, or a capture's events. What is wrong goes to standard error.
+mod capture;
 mod stream;
 
+use chain_record::Chain;
 use counts::Place;
 use libc::STDERR_FILENO;
+use libc::STDOUT_FILENO;
 use pack_profile::Profile;
 use pack_read::Refusal;
 use pack_read::read::Reading;
@@ -20,7 +23,33 @@ fn complain(text: &[u8]) {
 }
 
 fn usage() {
-    complain(b"usage: bus [PACK-FILE] < EVENTS\n");
+    complain(b"usage: bus [PACK-FILE] < EVENTS, or bus --capture CAPTURE [PACK-FILE]\n");
+}
+
+// A reader that has gone away is not reported.
+fn complain_unwritten() {
+    let why = os::errno();
+    if why == libc::EPIPE {
+        return;
+    }
+    if why == libc::EBADF {
+        return;
+    }
+    os::fail(b"standard output");
+}
+
+// Writes what waits. Gives whether the reader is still there.
+fn written(out: &[u8], n: usize, open: bool) -> bool
+    requires { ⌜ n ≤ length (now out) ⌝ }
+{
+    if !open {
+        return false;
+    }
+    let good = io::write_all(STDOUT_FILENO, &out[..n]);
+    if !good {
+        complain_unwritten();
+    }
+    good
 }
 
 fn complain_refused(why: Refusal, place: Place) {
@@ -31,12 +60,21 @@ fn complain_refused(why: Refusal, place: Place) {
     complain(b"\n");
 }
 
-// Answers standard input's events over a pack file in memory.
-fn run(file: &mut [u8]) {
+// The events are those of the capture that is named, or standard input's where none is.
+fn serve(chain: Chain, file: &mut [u8], events: &[u8]) {
+    if events.len() == 0 {
+        stream::serve(chain, file);
+        return;
+    }
+    capture::serve(chain, file, events);
+}
+
+// Answers the events over a pack file in memory.
+fn run(file: &mut [u8], events: &[u8]) {
     let fitted = chain_fit::fit(file);
     let answer = fitted.answer;
     match answer {
-        Reading::Whole => stream::serve(fitted.chain, file),
+        Reading::Whole => serve(fitted.chain, file, events),
         Reading::Refused(why, place) => complain_refused(why, place),
     }
 }
@@ -48,15 +86,15 @@ fn lay_at(file: &mut [u8], place: usize, p: Profile)
 }
 
 // The smallest drive in slots 1 and 3.
-fn run_two(file: &mut [u8; TWO]) {
+fn run_two(file: &mut [u8; TWO], events: &[u8]) {
     lay_at(file, 0, bus_smallest::drive(1));
     lay_at(file, bus_smallest::PACK, bus_smallest::drive(3));
-    run(file);
+    run(file, events);
 }
 
-fn run_smallest() {
+fn run_smallest(events: &[u8]) {
     let mut file = [0u8; TWO];
-    run_two(&mut file);
+    run_two(&mut file, events);
 }
 
 // Whether the file has no byte past those read.
@@ -77,21 +115,21 @@ fn at_end(fd: i32, path: &[u8]) -> bool {
     false
 }
 
-fn run_open(fd: i32, path: &[u8], room: &mut [u8]) {
+fn run_open(fd: i32, path: &[u8], room: &mut [u8], events: &[u8]) {
     let n = io::read_full(fd, room);
     let whole = at_end(fd, path);
     libc::close(fd);
     if whole {
-        run(&mut room[..n]);
+        run(&mut room[..n], events);
     }
 }
 
 // The room is lent as an array here, so that its length needs no proof.
-fn run_in(fd: i32, path: &[u8], room: &mut [u8; LIMIT]) {
-    run_open(fd, path, room);
+fn run_in(fd: i32, path: &[u8], room: &mut [u8; LIMIT], events: &[u8]) {
+    run_open(fd, path, room, events);
 }
 
-fn run_named(path: &[u8]) {
+fn run_named(path: &[u8], events: &[u8]) {
     let fd = os::open_read(path);
     if fd < 0 {
         os::fail(path);
@@ -99,14 +137,81 @@ fn run_named(path: &[u8]) {
         return;
     }
     let mut room = [0u8; LIMIT];
-    run_in(fd, path, &mut room);
+    run_in(fd, path, &mut room, events);
 }
 
-// The whole program: no argument, or the path of a pack file.
+// Whether a word is `--capture`.
+fn is_capture(word: &[u8]) -> bool {
+    if word.len() != 9 {
+        return false;
+    }
+    (word[0] == b'-')
+        & (word[1] == b'-')
+        & (word[2] == b'c')
+        & (word[3] == b'a')
+        & (word[4] == b'p')
+        & (word[5] == b't')
+        & (word[6] == b'u')
+        & (word[7] == b'r')
+        & (word[8] == b'e')
+}
+
+// The pack file of a capture, where the words name one.
+fn run_captured(words: usize, events: &[u8]) {
+    if !capture::good(events) {
+        return;
+    }
+    if words == 3 {
+        run_smallest(events);
+        return;
+    }
+    let mut path = io::buffer();
+    let n = os::arg(3, &mut path);
+    if os::errno() != 0 {
+        os::fail(b"path");
+        usage();
+        return;
+    }
+    run_named(&path[..n], events);
+}
+
+fn start_capture(words: usize) {
+    if words < 3 {
+        complain(b"bus: no capture\n");
+        usage();
+        return;
+    }
+    if words > 4 {
+        complain(b"bus: more than two files\n");
+        usage();
+        return;
+    }
+    let mut path = io::buffer();
+    let n = os::arg(2, &mut path);
+    if os::errno() != 0 {
+        os::fail(b"path");
+        usage();
+        return;
+    }
+    run_captured(words, &path[..n]);
+}
+
+// The whole program: no argument, or the path of a pack file; or a capture and perhaps a pack file.
 pub fn start() {
     let words = os::arg_count();
     if words < 2 {
-        run_smallest();
+        run_smallest(b"");
+        return;
+    }
+    let mut word = io::buffer();
+    let n = os::arg(1, &mut word);
+    if os::errno() != 0 {
+        os::fail(b"path");
+        usage();
+        return;
+    }
+    if is_capture(&word[..n]) {
+        start_capture(words);
         return;
     }
     if words > 2 {
@@ -114,12 +219,5 @@ pub fn start() {
         usage();
         return;
     }
-    let mut path = io::buffer();
-    let n = os::arg(1, &mut path);
-    if os::errno() != 0 {
-        os::fail(b"path");
-        usage();
-        return;
-    }
-    run_named(&path[..n]);
+    run_named(&word[..n], b"");
 }

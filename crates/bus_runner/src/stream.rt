@@ -1,46 +1,20 @@
 // Standard input and output around `bus_stream`: a block is read, its answers are written, and the next is read.
-use bus_stream::BLOCK;
+use crate::written;
+use bus_output::BLOCK;
 use bus_stream::Session;
 use chain_record::Chain;
 use libc::STDIN_FILENO;
-use libc::STDOUT_FILENO;
 ghost use mathlib.Core.Path.{_≡_};
 ghost use mathlib.Core.List.{[]};
 ghost use Prim.Native.Nat.{_≤_};
 ghost use lib.ListN.{length, take};
 ghost use Rattle.bus_stream.specs.Stream.{streamOf, fedBytes};
-ghost use Rattle.bus_stream.specs.Parts.{blockLength};
+ghost use Rattle.bus_output.specs.Output.{blockLength};
 
 struct Run {
     session: Session,
     // false once a write failed
     open: bool,
-}
-
-// A reader that has gone away is not reported.
-fn complain() {
-    let why = os::errno();
-    if why == libc::EPIPE {
-        return;
-    }
-    if why == libc::EBADF {
-        return;
-    }
-    os::fail(b"standard output");
-}
-
-// Writes what waits. Gives whether the reader is still there.
-fn written(out: &[u8], n: usize, open: bool) -> bool
-    requires { ⌜ n ≤ length (now out) ⌝ }
-{
-    if !open {
-        return false;
-    }
-    let good = io::write_all(STDOUT_FILENO, &out[..n]);
-    if !good {
-        complain();
-    }
-    good
 }
 
 // The first n bytes of a block of input. Every answer goes out before the next read, since a host may wait for it.

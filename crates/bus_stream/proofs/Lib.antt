@@ -1,4 +1,4 @@
-pub mod Output
+pub mod Closing
 pub mod Running
 pub mod Turning
 pub mod Cut

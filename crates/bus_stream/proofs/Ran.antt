@@ -6,7 +6,8 @@ use Prim.Native.Nat.{ℕ}
 use lib.Dec.{eqb}
 use Rattle.counts.specs.Choice.{if_then_else_}
 use Rattle.chain_record.specs.declared.Chain.{Chain}
-use Rattle.chain_step.specs.Run.{Numbers, Lent, lent, lentThrough, run}
+use Rattle.event.specs.Numbers.{Numbers}
+use Rattle.chain_step.specs.Run.{Lent, lent, lentThrough, run}
 use Rattle.bus_text.specs.declared.Scan.{Scan}
 use Rattle.bus_text.specs.declared.Line.{Line}
 use Rattle.bus_text.specs.declared.Line.the-variants as line
@@ -14,8 +15,8 @@ use Rattle.bus_text.specs.TextBytes.{newline}
 use Rattle.bus_text.specs.Whole.{lineOf}
 use Rattle.bus_text.specs.Scan.{freshScan, fedOf, fedAll}
 use Rattle.bus_text.proofs.Reading.{byte-seen}
-use Rattle.bus_reply.specs.Reply.{replyOf, replyFile}
-use Rattle.bus_stream.specs.Stream.{Stream, streamOf, sessionOf, lineCount, lineAnswer, openedOf, answeredOf, scannedOf, fedByte, fedBytes, closedOf}
+use Rattle.bus_reply.specs.Reply.{replyOf, replyFile, lineCount, lineAnswer}
+use Rattle.bus_stream.specs.Stream.{Stream, streamOf, sessionOf, openedOf, answeredOf, scannedOf, fedByte, fedBytes, closedOf}
 use Rattle.bus_stream.specs.EventLines.{onFirst, splitLines}
 use Rattle.bus_stream.specs.LineEvents.{eventOn, eventsIn}
 use Rattle.bus_stream.proofs.Whole.{begun, begun-none, begun-more, fed-more, reading, answered-is}

@@ -10,13 +10,14 @@ use Rattle.bus_text.specs.declared.Scan.{Scan}
 use Rattle.bus_text.specs.declared.Stop.{Stop}
 use Rattle.bus_text.specs.TextLines.{lineStop}
 use Rattle.bus_text.specs.AnswerLine.{longestLine}
+use Rattle.bus_output.specs.Output.{blockLength}
+use Rattle.bus_output.proofs.Output.{held, drop-further}
 use Rattle.bus_stream.specs.declared.Session.{Session}
 use Rattle.bus_stream.specs.declared.Waiting.{Waiting}
 use Rattle.bus_stream.specs.Stream.{streamOf, sessionOf}
-use Rattle.bus_stream.specs.Parts.{blockLength, fittingBytes}
+use Rattle.bus_stream.specs.Parts.{fittingBytes}
 use Rattle.bus_stream.specs.Kept.{Answers, Fed}
 use Rattle.bus_stream.proofs.Running.{Goes, goes-none, over-line, over-newline, stops-full, stops-used, run-ends, first-used}
-use Rattle.bus_stream.proofs.Output.{held, drop-further}
 
 -- what was run so far and the rest of the part come to the whole, and the output's end is as it was
 pub record Runs (part file₀ out₀ : List ℕ) (s₀ : Session) (out file : List ℕ) (s : Session) (used at : ℕ) : Type 0 where

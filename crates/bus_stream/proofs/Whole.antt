@@ -12,8 +12,8 @@ use Rattle.bus_text.specs.declared.Scan.{Scan}
 use Rattle.bus_text.specs.Whole.{lineOf, hasAny}
 use Rattle.bus_text.specs.Scan.{freshScan, fedOf, fedAll}
 use Rattle.bus_text.proofs.Reading.{line-read, byte-seen}
-use Rattle.bus_reply.specs.Reply.{replyOf, replyFile}
-use Rattle.bus_stream.specs.Stream.{Stream, streamOf, sessionOf, lineCount, lineAnswer, repliedOf, answeredOf, scannedOf, fedByte, fedBytes, closedOf, answersOf}
+use Rattle.bus_reply.specs.Reply.{replyOf, replyFile, lineCount, lineAnswer}
+use Rattle.bus_stream.specs.Stream.{Stream, streamOf, sessionOf, repliedOf, answeredOf, scannedOf, fedByte, fedBytes, closedOf, answersOf}
 use Rattle.bus_stream.specs.EventLines.{onFirst, splitLines, linesAnswers}
 
 -- the lines of a text whose first line has begun

@@ -6,8 +6,7 @@ use Rattle.counts.specs.Choice.{if_then_else_}
 use Rattle.chain_record.specs.declared.Chain.{Chain}
 use Rattle.bus_text.specs.TextBytes.{newline}
 use Rattle.bus_text.specs.Whole.{lineOf}
-use Rattle.bus_reply.specs.Reply.{replyOf, replyFile}
-use Rattle.bus_stream.specs.Stream.{lineCount, lineAnswer}
+use Rattle.bus_reply.specs.Reply.{replyOf, replyFile, lineCount, lineAnswer}
 
 -- a byte in front of the first line
 abbrev pub onFirst : ℕ → List (List ℕ) → List (List ℕ)

@@ -1,21 +1,15 @@
 -- What the functions leave in the lent output, beside what they return.
-use Prim.Native.Nat.{ℕ, _+_, _≤_, _<_}
+use Prim.Native.Nat.{ℕ, _≤_, _<_}
 use mathlib.Core.Path.{_≡_}
-use mathlib.Core.List.{List, [], _++_}
+use mathlib.Core.List.{List, []}
 use lib.ListN.{length, take, drop}
 use Rattle.bus_text.specs.Stored.{over}
+use Rattle.bus_output.specs.Output.{blockLength}
 use Rattle.bus_stream.specs.declared.Session.{Session}
 use Rattle.bus_stream.specs.declared.Waiting.{Waiting}
 use Rattle.bus_stream.specs.declared.Turn.{Turn}
 use Rattle.bus_stream.specs.Stream.{streamOf, answeredOf, closedOf}
-use Rattle.bus_stream.specs.Parts.{blockLength, ranOf, turnOf}
-
--- text behind the first bytes of an output, the rest kept
-pub record Behind (old : List ℕ) (at : ℕ) (text new : List ℕ) (next : ℕ) : Type 0 where
-  pub waits : take next new ≡ take at old ++ text
-  pub rest : drop next new ≡ drop next old
-  pub further : at ≤ next
-  pub within : next ≤ length old
+use Rattle.bus_stream.specs.Parts.{ranOf, turnOf}
 
 -- a line answered: the stream whose bytes put out are those that wait; the output behind them is kept
 pub record Answers (s : Session) (file out : List ℕ) (at : ℕ) (r : Waiting) (file′ out′ : List ℕ) : Type 0 where

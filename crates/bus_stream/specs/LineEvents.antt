@@ -1,7 +1,7 @@
 -- The events of a text: the three numbers of each line that can be read, in order.
 use Prim.Native.Nat.{ℕ}
 use mathlib.Core.List.{List, [], _∷_}
-use Rattle.chain_step.specs.Run.{Numbers}
+use Rattle.event.specs.Numbers.{Numbers}
 use Rattle.bus_text.specs.declared.Line.{Line}
 use Rattle.bus_text.specs.declared.Line.the-variants as line
 use Rattle.bus_text.specs.Whole.{lineOf}

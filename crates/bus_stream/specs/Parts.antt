@@ -7,13 +7,10 @@ use lib.ListN.{length}
 use Rattle.counts.specs.Choice.{if_then_else_}
 use Rattle.bus_text.specs.TextBytes.{newline}
 use Rattle.bus_text.specs.AnswerLine.{longestLine}
+use Rattle.bus_output.specs.Output.{blockLength}
 use Rattle.bus_stream.specs.declared.Session.{Session}
 use Rattle.bus_stream.specs.declared.Turn.{Turn}
 use Rattle.bus_stream.specs.Stream.{Stream, streamOf, fedByte, fedBytes, closedOf}
-
--- the output that may wait
-abbrev pub blockLength : ℕ
-blockLength = 65_536
 
 -- whether the next answer might not fit
 abbrev pub isFull : Stream → Bool

@@ -1,5 +1,5 @@
 -- The runner as a function of bytes, a byte at a time. Document 01, Runner: "reads event lines from standard input", "Each output line: ..".
-use Prim.Native.Nat.{ℕ, _+_, _%_, _^_}
+use Prim.Native.Nat.{ℕ}
 use mathlib.Core.List.{List, [], _∷_, _++_}
 use lib.Dec.{eqb}
 use Rattle.counts.specs.Choice.{if_then_else_}
@@ -8,9 +8,7 @@ use Rattle.bus_text.specs.declared.Scan.{Scan}
 use Rattle.bus_text.specs.declared.Line.{Line}
 use Rattle.bus_text.specs.TextBytes.{newline}
 use Rattle.bus_text.specs.Scan.{freshScan, fedOf, finishOf, hasByteOf}
-use Rattle.bus_text.specs.AnswerLine.{answerLine}
-use Rattle.bus_reply.specs.declared.Reply.{Reply}
-use Rattle.bus_reply.specs.Reply.{replyOf, replyFile}
+use Rattle.bus_reply.specs.Reply.{replyOf, replyFile, lineCount, lineAnswer}
 use Rattle.bus_stream.specs.declared.Session.{Session}
 
 -- a session, the pack file in memory, and the bytes that were put out
@@ -27,14 +25,6 @@ sessionOf c scan lines = record { chain = c; scan = scan; lines = lines }
 
 abbrev pub openedOf : Chain → Session
 openedOf c = sessionOf c freshScan 0
-
--- "input line count": a count of 64 bits, which no run fills
-abbrev pub lineCount : ℕ → ℕ
-lineCount lines = (lines + 1) % 2 ^ 64
-
--- "input line count, answer, value, and .. a sum"
-abbrev pub lineAnswer : ℕ → Reply → List ℕ
-lineAnswer lines r = answerLine lines (r .answer) (r .value) (r .sum)
 
 -- a line at its end: the event carried out, its answer line put behind the bytes put out, and the next line begun
 abbrev pub repliedOf : Chain → ℕ → List ℕ → List ℕ → Line → Stream

@@ -1,17 +1,14 @@
 // The runner as a function of bytes: event lines in, answer lines out, wherever the input is cut. No descriptor is read or written here.
 // Bytes are scanned apart from the chain, which moves once a line.
+use bus_output::BLOCK;
 use bus_text::Scan;
 use chain_record::Chain;
 ghost use mathlib.Core.Path.{_≡_};
 ghost use Prim.Native.Nat.{_+_, _≤_};
-ghost use lib.ListN.{length};
-ghost use Rattle.bus_text.specs.AnswerLine.{answerLine, longestLine};
+ghost use Rattle.bus_text.specs.AnswerLine.{longestLine};
+ghost use Rattle.bus_output.specs.Output.{blockLength};
 ghost use Rattle.bus_stream.specs.Stream.{openedOf};
-ghost use Rattle.bus_stream.specs.Parts.{blockLength};
-ghost use Rattle.bus_stream.specs.Kept.{Behind, Answers, Fed, Closes};
-
-// The length of a block of input, and of the output that waits.
-pub const BLOCK: usize = 65_536;
+ghost use Rattle.bus_stream.specs.Kept.{Answers, Fed, Closes};
 
 // What one byte leaves to the next.
 pub struct Session {
@@ -46,14 +43,6 @@ pub fn opened(chain: Chain) -> Session
     }
 }
 
-// Puts an answer line behind the output that waits, and gives the place where it ends.
-fn put(out: &mut [u8], at: usize, lines: u64, answer: u8, value: u8, sum: u8) -> usize
-    requires { ⌜ at + longestLine ≤ length (now out) ⌝ }
-    ensures { λ r. ⌜ Behind (now (out .entry)) at (answerLine lines answer value sum) (now (out .exit)) r ⌝ }
-{
-    at + bus_text::put::put_answer(&mut out[at..], lines, answer, value, sum)
-}
-
 // Runs the event of the line that was read, and puts its answer behind the output that waits.
 fn answered(out: &mut [u8; BLOCK], at: usize, file: &mut [u8], s: Session) -> Waiting
     requires { ⌜ at + longestLine ≤ blockLength ⌝ }
@@ -62,7 +51,7 @@ fn answered(out: &mut [u8; BLOCK], at: usize, file: &mut [u8], s: Session) -> Wa
     let t = bus_reply::to_line(s.chain, file, bus_text::read::finish(s.scan));
     let lines = std::num::wrapping_add_u64(s.lines, 1);
     let chain = t.chain;
-    let next = put(out, at, lines, t.answer, t.value, t.sum);
+    let next = bus_output::put(out, at, lines, t.answer, t.value, t.sum);
     Waiting {
         session: Session {
             chain,

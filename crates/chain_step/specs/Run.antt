@@ -2,15 +2,10 @@
 use Prim.Native.Nat.{ℕ}
 use mathlib.Core.List.{List, [], _∷_}
 use Rattle.event.specs.declared.Answer.{Answer}
+use Rattle.event.specs.Numbers.{Numbers}
 use Rattle.chain_record.specs.declared.Chain.{Chain}
 use Rattle.chain_step.specs.declared.Stepped.{Stepped}
 use Rattle.chain_step.specs.Step.{stepOf, stepFile}
-
--- "Each is three numbers: kind, a, b."
-pub record Numbers : Type 0 where
-  pub kind : ℕ
-  pub a : ℕ
-  pub b : ℕ
 
 -- a chain record and the file lent with it
 pub record Lent : Type 0 where

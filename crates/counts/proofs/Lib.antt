@@ -5,3 +5,4 @@ pub mod Loops
 pub mod First
 pub mod Bytes
 pub mod Ones
+pub mod Parts

@@ -1,5 +1,7 @@
 // The counts that document 01 keeps apart. One becomes another only where a rule says so.
 
+pub mod read;
+
 // The slots of a chain, 1 to 7.
 pub const LAST_SLOT: u8 = 7;
 

@@ -12,6 +12,7 @@ ghost use Rattle.pack_lay.specs.Lay.{laidNumber, laidAnswer, laidBytes};
 ghost use Rattle.c_pack.specs.Fit.{lentFit};
 ghost use Rattle.c_pack.specs.FilePacks.{packsOf, packAtSlot};
 ghost use Rattle.c_word.specs.Words.{slotWord};
+ghost use Rattle.c_capture.specs.Capture.{lentCapture, captureFile, captureAnswers, captureCount};
 ghost use Rattle.c_layout.specs.Marks.{markedChain};
 ghost use Rattle.chain_apply.specs.Apply.{applied};
 ghost use Rattle.chain_step.specs.Step.{stepOf, stepFile};
@@ -94,6 +95,34 @@ pub extern "C" fn esdi_fit<'a, 'b>(c: &'a mut Chain, file: &'b [u8]) -> u64
     let fitted = c_pack::fit::fit(old, file);
     *c = chain_of(fitted);
     code_of(fitted)
+}
+
+// A capture on the lent record and file, an answer of two bytes for each of its events into the lent answers.
+#[no_mangle]
+pub extern "C" fn esdi_capture<'a, 'b, 'c, 'd>(
+    c: &'a mut Chain,
+    file: &'b mut [u8],
+    capture: &'c [u8],
+    answers: &'d mut [u8],
+) -> u64
+    ensures { λ r. ⌜ (now (c .exit) ≡ lentCapture (now (c .entry)) (now (file .entry)) (now (capture .entry)) (length (now (answers .entry))) .chain)
+        × ((r ≡ lentCapture (now (c .entry)) (now (file .entry)) (now (capture .entry)) (length (now (answers .entry))) .code)
+        × ((now (file .exit) ≡ captureFile (now (c .entry)) (now (file .entry)) (now (capture .entry)) (length (now (answers .entry))))
+        × (now (answers .exit) ≡ captureAnswers (now (c .entry)) (now (file .entry)) (now (capture .entry)) (now (answers .entry))))) ⌝ }
+{
+    let old = *c;
+    let ran = c_capture::capture(old, file, capture, answers);
+    *c = chain_of(ran);
+    code_of(ran)
+}
+
+// How many answers a capture on the lent record will have.
+#[no_mangle]
+pub extern "C" fn esdi_capture_count<'a, 'b>(c: &'a Chain, capture: &'b [u8]) -> u64
+    ensures { λ r. ⌜ r ≡ captureCount (now (c .entry)) (now (capture .entry)) ⌝ }
+{
+    let old = *c;
+    c_capture::count(old, capture)
 }
 
 // A word to a slot of the lent record.

@@ -1,3 +1,4 @@
+pub mod Numbers
 pub mod Operands
 pub mod Decode
 pub mod Answer

@@ -13,7 +13,8 @@ use Rattle.chain_others.specs.Passing.{passEvent}
 use Rattle.chain_decide.specs.Decide.{decideOf}
 use Rattle.chain_judge.specs.Judge.{allowedOf, decodedOf, judgedOf}
 use Rattle.chain_step.specs.Step.{stepFile}
-use Rattle.chain_step.specs.Run.{Numbers, Lent, lent, lentAfter, lentThrough, run}
+use Rattle.event.specs.Numbers.{Numbers}
+use Rattle.chain_step.specs.Run.{Lent, lent, lentAfter, lentThrough, run}
 use Rattle.law_chain.specs.SoundOver.{SoundOver}
 use Rattle.law_chain.proofs.Run.{step-sound}
 use Rattle.law_chain.proofs.Stepping.{step-decides}

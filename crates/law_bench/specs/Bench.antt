@@ -9,7 +9,8 @@ use Rattle.word_rules.specs.declared.Told.{Told}
 use Rattle.word_rules.specs.declared.Told.the-variants.{Nothing, Word}
 use Rattle.word_rules.specs.declared.Answered.{Answered}
 use Rattle.chain_record.specs.declared.Chain.{Chain}
-use Rattle.chain_step.specs.Run.{Numbers, Lent, run}
+use Rattle.event.specs.Numbers.{Numbers}
+use Rattle.chain_step.specs.Run.{Lent, run}
 use Rattle.chain_decision.specs.Decision.{outcomeAnswer}
 use Rattle.c_pack.specs.declared.Coded.{Coded}
 use Rattle.c_word.specs.Words.{wordCode, slotWord}

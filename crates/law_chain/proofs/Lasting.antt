@@ -37,7 +37,8 @@ use Rattle.chain_decide.specs.Levels.{ruleOf}
 use Rattle.chain_decide.proofs.Walk.{Cases, walk}
 use Rattle.chain_judge.specs.Judge.{allowedOf, decodedOf, judgedOf}
 use Rattle.chain_step.specs.Step.{stepOf}
-use Rattle.chain_step.specs.Run.{Numbers, Lent, lentAfter, lentThrough, run}
+use Rattle.event.specs.Numbers.{Numbers}
+use Rattle.chain_step.specs.Run.{Lent, lentAfter, lentThrough, run}
 use Rattle.law_chain.proofs.Drives.{put-long, slot-mapped, put-in}
 
 -- R: what may become of a drive's body; Q: what is known of an event and a slot

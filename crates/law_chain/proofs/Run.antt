@@ -15,7 +15,8 @@ use Rattle.chain_apply.specs.Apply.{applied}
 use Rattle.chain_fit.specs.Fresh.{freshFit}
 use Rattle.chain_judge.specs.Judge.{judgedOf}
 use Rattle.chain_step.specs.Step.{stepOf, stepFile}
-use Rattle.chain_step.specs.Run.{Numbers, Lent, lent, lentAfter, lentThrough, run}
+use Rattle.event.specs.Numbers.{Numbers}
+use Rattle.chain_step.specs.Run.{Lent, lent, lentAfter, lentThrough, run}
 use Rattle.law_chain.specs.SoundOver.{SoundOver}
 use Rattle.law_chain.proofs.Fitted.{whole-sound, fitted-length}
 use Rattle.law_chain.proofs.Kept.{sound-kept}

@@ -27,7 +27,8 @@ use Rattle.chain_decision.specs.Deeds.{Every}
 use Rattle.chain_sound.proofs.SoundSlots.{slot-of, pack-there, state-there}
 use Rattle.chain_fit.specs.Fresh.{freshSlot, blankStates, freshFit}
 use Rattle.chain_step.specs.Step.{stepOf}
-use Rattle.chain_step.specs.Run.{Numbers, Lent, lent, run}
+use Rattle.event.specs.Numbers.{Numbers}
+use Rattle.chain_step.specs.Run.{Lent, lent, run}
 use Rattle.law_chain.proofs.Drives.{there}
 use Rattle.law_chain.proofs.Lasting.{Leave, Known, step-leaves, run-leaves}
 

@@ -37,7 +37,8 @@ use Rattle.chain_decide.specs.Decide.{conditionEvent, decideOf}
 use Rattle.chain_decide.proofs.Written.{Written}
 use Rattle.chain_judge.specs.Judge.{allowedOf, decodedOf, judgedOf}
 use Rattle.chain_step.specs.Step.{stepOf, stepFile}
-use Rattle.chain_step.specs.Run.{Numbers, Lent, lentAfter, lentThrough, run}
+use Rattle.event.specs.Numbers.{Numbers}
+use Rattle.chain_step.specs.Run.{Lent, lentAfter, lentThrough, run}
 use Rattle.law_chain.specs.SoundOver.{SoundOver}
 use Rattle.law_chain.proofs.Drives.{InMediumOf, is-slot, slot-room, one-medium, put-same, put-back}
 use Rattle.law_chain.proofs.Ranges.{InRange, decoded-range}

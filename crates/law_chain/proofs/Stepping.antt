@@ -10,7 +10,8 @@ use Rattle.chain_apply.specs.Apply.{applied}
 use Rattle.chain_decide.specs.Decide.{decideOf}
 use Rattle.chain_judge.specs.Judge.{allowedOf, decodedOf, judgedOf}
 use Rattle.chain_step.specs.Step.{stepOf}
-use Rattle.chain_step.specs.Run.{Numbers, Lent, lentAfter}
+use Rattle.event.specs.Numbers.{Numbers}
+use Rattle.chain_step.specs.Run.{Lent, lentAfter}
 use Rattle.law_chain.specs.SoundOver.{SoundOver}
 use Rattle.law_chain.specs.OnlyMet.{OnlyMet}
 use Rattle.law_chain.proofs.Meeting.{only-met}

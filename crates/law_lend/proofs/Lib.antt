@@ -4,3 +4,5 @@ pub mod Fit
 pub mod Alone
 pub mod Pack
 pub mod Lay
+pub mod Capture
+pub mod Counted

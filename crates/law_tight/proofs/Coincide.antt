@@ -6,7 +6,8 @@ use lib.ListN.{length}
 use Rattle.pack_lay.specs.Lay.{laidAnswer, laidBytes}
 use Rattle.pack_lay.specs.Order.{stagedBytes}
 use Rattle.chain_step.specs.Step.{performOf, stepOf, stepFile}
-use Rattle.law_tight.specs.Tight.{Contract, Tight, Leaving, EventOn, StepContract, PerformContract, LayingIn, StagingIn, LayContract, StageContract}
+use Rattle.capture_run.specs.Captured.{capturedOf, capturedFile, capturedAnswers}
+use Rattle.law_tight.specs.Tight.{Contract, Tight, Leaving, EventOn, StepContract, PerformContract, LayingIn, StagingIn, LayContract, StageContract, CaptureContract}
 
 pub tight : {I O : Type 0} (C : Contract I O) (f : I → O) → ((i : I) (x : O) → C i x → x ≡ f i) → Tight C
 tight C f is i x y p q = is i x p ∙ sym (is i y q)
@@ -33,3 +34,11 @@ lay-tight = tight-leaving (λ (i : LayingIn). laidAnswer (i .profile) (length (i
 pub stage-tight : Tight StageContract
 stage-tight =
     tight-leaving (λ (i : StagingIn). laidAnswer (i .laying .profile) (length (i .laying .part))) (λ i. stagedBytes (i .stage) (i .laying .profile) (i .laying .part))
+
+pub capture-tight : Tight CaptureContract
+capture-tight =
+    tight CaptureContract (λ i. record {
+      result = capturedOf (i .on .chain) (i .on .file) (i .capture) (length (i .answers));
+      file = capturedFile (i .on .chain) (i .on .file) (i .capture) (length (i .answers));
+      answers = capturedAnswers (i .on .chain) (i .on .file) (i .capture) (i .answers);
+    }) (λ i x p. λ j. record { result = p .0 j; file = p .1 .0 j; answers = p .1 .1 j })

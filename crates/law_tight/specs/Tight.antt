@@ -11,7 +11,10 @@ use Rattle.pack_lay.specs.Order.{stagedBytes}
 use Rattle.chain_step.specs.declared.Performed.{Performed}
 use Rattle.chain_step.specs.declared.Stepped.{Stepped}
 use Rattle.chain_step.specs.Step.{performOf, stepOf, stepFile}
-use Rattle.chain_step.specs.Run.{Numbers, Lent}
+use Rattle.event.specs.Numbers.{Numbers}
+use Rattle.chain_step.specs.Run.{Lent}
+use Rattle.capture_run.specs.declared.Captured.{Captured}
+use Rattle.capture_run.specs.Captured.{capturedOf, capturedFile, capturedAnswers}
 
 -- what a function ensures of an outcome, for an input
 abbrev pub Contract : Type 0 → Type 0 → Type 1
@@ -61,3 +64,22 @@ LayContract i o = (o .result ≡ laidAnswer (i .profile) (length (i .part))) × 
 abbrev pub StageContract : Contract StagingIn (Leaving Laid)
 StageContract i o =
     (o .result ≡ laidAnswer (i .laying .profile) (length (i .laying .part))) × (o .left ≡ stagedBytes (i .stage) (i .laying .profile) (i .laying .part))
+
+-- a capture on a record and a lent file, with a lent buffer for the answers
+pub record CaptureOn : Type 0 where
+  pub on : Lent
+  pub capture : List ℕ
+  pub answers : List ℕ
+
+-- a result, and what is left of file and answers
+pub record LeavingBoth (R : Type 0) : Type 0 where
+  pub result : R
+  pub file : List ℕ
+  pub answers : List ℕ
+
+-- `capture_run::run`
+abbrev pub CaptureContract : Contract CaptureOn (LeavingBoth Captured)
+CaptureContract i o =
+    (o .result ≡ capturedOf (i .on .chain) (i .on .file) (i .capture) (length (i .answers)))
+    × ((o .file ≡ capturedFile (i .on .chain) (i .on .file) (i .capture) (length (i .answers)))
+    × (o .answers ≡ capturedAnswers (i .on .chain) (i .on .file) (i .capture) (i .answers)))

@@ -6,7 +6,8 @@ use lib.ListN.{length}
 use Rattle.law_exchange.specs.Host.{Signal, Sending, Exchanged, exchanges}
 use Rattle.law_exchange.specs.Waits.{InTime, Each}
 use Rattle.law_exchange.proofs.Like.{Alike, exchanges-like, any-waits}
-use Rattle.chain_step.specs.Run.{Numbers, Lent, lentAfter, lentThrough, run}
+use Rattle.event.specs.Numbers.{Numbers}
+use Rattle.chain_step.specs.Run.{Lent, lentAfter, lentThrough, run}
 use Rattle.law_words.specs.AtOnce.{Resting, atOnce}
 use Rattle.law_words.specs.Stepped.{numbersOf, stepped}
 use Rattle.law_words.specs.Listed.{listed, eventsSent}

@@ -1,7 +1,8 @@
 -- An exchange as a list of events: what the host sends, given what it sees on the way.
 use mathlib.Core.List.{List, [], _∷_, _++_}
 use Rattle.law_exchange.specs.Host.{Signal, Cable, Sending, exchanges}
-use Rattle.chain_step.specs.Run.{Numbers, Lent, lentThrough}
+use Rattle.event.specs.Numbers.{Numbers}
+use Rattle.chain_step.specs.Run.{Lent, lentThrough}
 use Rattle.law_words.specs.Stepped.{numbersOf, stepped}
 
 -- the events sent so far, to the chain and file d

@@ -1,7 +1,7 @@
 -- Five events that bring a chain to rest on a slot: demand 3's "any fitted drive that is selected, with both gates off, the request line low".
 use Prim.Native.Nat.{ℕ}
 use mathlib.Core.List.{List, [], _∷_}
-use Rattle.chain_step.specs.Run.{Numbers}
+use Rattle.event.specs.Numbers.{Numbers}
 
 abbrev pub lineEvent : ℕ → ℕ → Numbers
 lineEvent kind a = record { kind = kind; a = a; b = 0 }

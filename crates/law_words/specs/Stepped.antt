@@ -2,7 +2,8 @@
 use Prim.Native.Nat.{ℕ, _≤_}
 use Rattle.event.specs.Answer.{answerNumber}
 use Rattle.law_exchange.specs.Host.{Signal, level, ask, micros, Cable}
-use Rattle.chain_step.specs.Run.{Numbers, Lent, stepBy, lentAfter}
+use Rattle.event.specs.Numbers.{Numbers}
+use Rattle.chain_step.specs.Run.{Lent, stepBy, lentAfter}
 use Rattle.law_words.specs.Decided.{decided}
 
 -- "4 command data", "5 transfer request", "6 microseconds pass"

@@ -5,7 +5,7 @@ use Prim.Native.Nat.{ℕ, _+_, _-_}
 use native.Mathlib.Omega.{arith}
 use lib.ListN.{length, take, drop, length-drop, drop-of-length-le}
 use lib.Seq.{take-length, drop-drop}
-use Rattle.pack_read.proofs.ReadLists.{rest}
+use Rattle.counts.proofs.Parts.{rest}
 
 -- a copy of t into the part from a place on, said of the whole
 pub put-in : (b t : List ℕ) (at n : ℕ) → length t ≡ n

@@ -1,3 +1,2 @@
-pub mod ReadLists
 pub mod Checked
 pub mod Back

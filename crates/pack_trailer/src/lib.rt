@@ -5,11 +5,13 @@ use counts::Micros;
 use counts::PerCylinder;
 use counts::Position;
 use counts::SectorSize;
+use counts::read::byte;
+use counts::read::four;
+use counts::read::two;
 use pack_profile::Profile;
 use pack_profile::Shape;
 use pack_profile::Times;
 ghost use mathlib.Core.Path.{_≡_};
-ghost use Prim.Native.Nat.{_+_, _*_};
 ghost use Rattle.counts.specs.Bytes.{one as byteOf, two as twoOf, four as fourOf};
 ghost use Rattle.pack_trailer.specs.Fields.{ShapeIs, TimesIs, profileOf, zerosB};
 ghost use Rattle.pack_trailer.specs.TrailerBytes.{firstBytes, timeBytes, lastBytes, trailerOf};
@@ -25,53 +27,6 @@ pub const FORM_PLACE: usize = 39;
 
 // Where in a trailer the distance begins, behind the fields.
 pub const DISTANCE_PLACE: usize = 40;
-
-// A byte of a trailer; past the end it reads 0, so nothing is asked of the caller.
-fn byte(t: &[u8], k: usize) -> u8
-    ensures { λ r. ⌜ r ≡ byteOf (now (t .entry)) k ⌝ }
-{
-    if k < t.len() {
-        return t[k];
-    }
-    0
-}
-
-fn join2(a: u8, b: u8) -> u16
-    ensures { λ r. ⌜ r ≡ a * 256 + b ⌝ }
-{
-    (a as u16) * 256 + (b as u16)
-}
-
-fn join4(a: u8, b: u8, c: u8, d: u8) -> u32
-    ensures { λ r. ⌜ r ≡ ((a * 256 + b) * 256 + c) * 256 + d ⌝ }
-{
-    (((a as u32) * 256 + (b as u32)) * 256 + (c as u32)) * 256 + (d as u32)
-}
-
-fn two(t: &[u8], k: u8) -> u16
-    ensures { λ r. ⌜ r ≡ twoOf (now (t .entry)) k ⌝ }
-{
-    let at = k as usize;
-    join2(byte(t, at), byte(t, at + 1))
-}
-
-fn two_wide(t: &[u8], k: u8) -> u32
-    ensures { λ r. ⌜ r ≡ twoOf (now (t .entry)) k ⌝ }
-{
-    two(t, k) as u32
-}
-
-fn four(t: &[u8], k: u8) -> u32
-    ensures { λ r. ⌜ r ≡ fourOf (now (t .entry)) k ⌝ }
-{
-    let at = k as usize;
-    join4(
-        byte(t, at),
-        byte(t, at + 1),
-        byte(t, at + 2),
-        byte(t, at + 3),
-    )
-}
 
 // The form that a trailer names.
 pub fn form_of(t: &[u8]) -> u8
@@ -110,12 +65,12 @@ fn times_of(t: &[u8]) -> Times
 {
     Times {
         settle: Micros(four(t, 16)),
-        step: PerCylinder(two_wide(t, 20)),
-        switch: Micros(two_wide(t, 22)),
+        step: PerCylinder(two(t, 20) as u32),
+        switch: Micros(two(t, 22) as u32),
         recalibrate: Micros(four(t, 24)),
         start: Micros(four(t, 28)),
         diagnostic: Micros(four(t, 32)),
-        offset: Micros(two_wide(t, 36)),
+        offset: Micros(two(t, 36) as u32),
     }
 }
 

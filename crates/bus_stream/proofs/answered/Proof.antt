@@ -1,6 +1,7 @@
 -- `bus_stream::answered` gives `answeredOf`.
 use native.Mathlib.Omega.{arith}
 use borrow.Author.Needs.{needs}
+use Rattle.bus_output.proofs.Output.{put-behind}
 use Rattle.bus_stream.specs.Stream.{answeredOf}
 use Rattle.bus_stream.proofs.answered.Statement.{statement}
 use Rattle.bus_stream.proofs.answered.Tie as tie
@@ -26,14 +27,14 @@ same-length c = search needs
 returns : tie.Need-returns
 unfolding answeredOf
 returns c =
-    let p = c .before .put .ensures in
+    let p = put-behind (c .before .put .ensures) (omega arith) in
     let l = c .before .before .before .before .before .before .before in
     record {
       is = simp (c .fresh .ensures, c .before .before .before .before .wrapping-add-u64 .ensures, p .waits, l .to-line .ensures .0, l .to-line .ensures .1, l .before .finish .ensures);
       rest = p .rest;
       further = p .further;
-      within = omega (arith, p .within);
-      holds = omega (arith, p .within, c .before .put .kept .0);
+      within = omega (arith, p .near);
+      holds = p .holds;
     }
 
 pub answered-spec : {M : Type 1} → statement M

@@ -2,7 +2,7 @@
 use mathlib.Core.Path.{sym, _∙_}
 use borrow.Author.Needs.{needs}
 use borrow.Author.Tests.{not-true, not-false}
-use Rattle.bus_stream.proofs.Output.{closes-empty, closes-line}
+use Rattle.bus_stream.proofs.Closing.{closes-empty, closes-line}
 use Rattle.bus_stream.proofs.close.Statement.{statement}
 use Rattle.bus_stream.proofs.close.Tie as tie
 

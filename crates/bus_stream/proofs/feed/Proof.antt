@@ -3,7 +3,7 @@ use Prim.Native.Nat.{_-_}
 use native.Mathlib.Omega.{arith}
 use lib.ListN.{length}
 use borrow.Author.Needs.{needs}
-use Rattle.pack_read.proofs.ReadLists.{rest}
+use Rattle.counts.proofs.Parts.{rest}
 use Rattle.bus_stream.proofs.Turning.{Runs, begins, reads-on, answers-on, stops, stops-at-end, stops-before}
 use Rattle.bus_stream.proofs.feed.Statement.{statement}
 use Rattle.bus_stream.proofs.feed.Tie as tie

@@ -7,7 +7,7 @@ use borrow.Author.Tests.{lt-ltb, le-ltb}
 use lib.ListN.{length}
 use Rattle.pack_trailer.specs.Form.{trailerLength}
 use Rattle.pack_read.specs.Read.{checked, lastPack}
-use Rattle.pack_read.proofs.ReadLists.{rest}
+use Rattle.counts.proofs.Parts.{rest}
 use Rattle.pack_read.proofs.read.last_pack.Statement.{statement}
 use Rattle.pack_read.proofs.read.last_pack.Tie as tie
 

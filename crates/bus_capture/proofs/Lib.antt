@@ -1,0 +1,5 @@
+pub mod Running
+pub mod Turning
+pub mod Whole
+pub mod Cut
+pub mod Threading

@@ -1,0 +1,4 @@
+pub mod Answers
+pub mod Stream
+pub mod Parts
+pub mod Kept

@@ -1,0 +1,4 @@
+pub mod Passing
+pub mod Changing
+pub mod Coming
+pub mod Counting

@@ -1,0 +1,4 @@
+pub mod Passed
+pub mod Followed
+pub mod Cut
+pub mod Sound

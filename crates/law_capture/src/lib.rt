@@ -1,0 +1,1 @@
+// Theorems about captures: specs/ says them, proofs/ proves them.
