@@ -1,7 +1,7 @@
 -- A capture in parts of whole samples puts out the whole capture's answers, and leaves the chain and the file of `run` over its events.
 use Prim.Native.Nat.{ℕ, _*_, _/_, _%_, _≤_}
 use mathlib.Core.Path.{_≡_, refl, sym, ap, _∙_}
-use mathlib.Core.List.{List, [], _∷_, _++_, append-assoc, append-nil}
+use mathlib.Core.List.{List, [], _∷_, _++_, flatten, append-assoc, append-nil}
 use native.Mathlib.Omega.{arith}
 use lib.ListN.{length}
 use Rattle.event.specs.Numbers.{Numbers}
@@ -15,7 +15,7 @@ use Rattle.capture_events.proofs.Coming.{from-start}
 use Rattle.bus_capture.specs.declared.Session.{Session}
 use Rattle.bus_capture.specs.Answers.{eventsAnswers}
 use Rattle.bus_capture.specs.Stream.{Stream, streamOf, answeredOf, fedEvents}
-use Rattle.bus_capture.specs.Parts.{openedOf, lastOf, fedPart, sessionAfter, fileAfter, behind, fedParts, joined, WholeSamples}
+use Rattle.bus_capture.specs.Parts.{openedOf, lastOf, fedPart, sessionAfter, fileAfter, behind, fedParts, WholeSamples}
 use Rattle.bus_capture.proofs.Whole.{through, fed-is}
 
 -- samples and then samples
@@ -54,11 +54,12 @@ part-behind p q s file h =
     ∙ ap (λ (v : Stream). fedEvents v m) e
     ∙ events-behind (t .out) m (streamOf (sessionAfter s file p) (fileAfter s file p) [])
 
-pub parts-join : (ps : List (List ℕ)) (s : Session) (file : List ℕ) → WholeSamples ps → fedParts s file ps ≡ fedPart s file (joined ps)
+pub parts-join : (ps : List (List ℕ)) (s : Session) (file : List ℕ) → WholeSamples ps → fedParts s file ps ≡ fedPart s file (flatten ps)
+unfolding flatten
 parts-join [] s file w = sym (ap (λ (l : List Sample). fedEvents (streamOf s file []) (eventsBehind (s .at) l)) (no-sample [] (omega arith)))
 parts-join (p ∷ ps) s file w =
     ap (λ (t : Stream). behind (fedPart s file p .out) t) (parts-join ps (sessionAfter s file p) (fileAfter s file p) (w .1))
-    ∙ sym (part-behind p (joined ps) s file (w .0))
+    ∙ sym (part-behind p (flatten ps) s file (w .0))
 
 -- the first part says the first sample's time, where it has one
 pub opened-front : (c : Chain) (p q : List ℕ) → sampleLength ≤ length p → openedOf c (p ++ q) ≡ openedOf c p
@@ -66,16 +67,16 @@ opened-front c p q h = ap (λ (s : Sample). record { chain = c; at = record { st
 
 -- any capture, of any length, on any chain and file, in parts of whole samples
 module _ (c : Chain) (file : List ℕ) (ps : List (List ℕ)) (w : WholeSamples ps) where
-  whole : fedParts (openedOf c (joined ps)) file ps ≡ fedEvents (streamOf (openedOf c (joined ps)) file []) (captureEvents (c .lines) (joined ps))
+  whole : fedParts (openedOf c (flatten ps)) file ps ≡ fedEvents (streamOf (openedOf c (flatten ps)) file []) (captureEvents (c .lines) (flatten ps))
   whole =
-      parts-join ps (openedOf c (joined ps)) file w
-      ∙ ap (λ (l : List Numbers). fedEvents (streamOf (openedOf c (joined ps)) file []) l) (sym (from-start (c .lines) (joined ps)))
+      parts-join ps (openedOf c (flatten ps)) file w
+      ∙ ap (λ (l : List Numbers). fedEvents (streamOf (openedOf c (flatten ps)) file []) l) (sym (from-start (c .lines) (flatten ps)))
 
-  all-is : fedParts (openedOf c (joined ps)) file ps ≡ through (streamOf (openedOf c (joined ps)) file []) (captureEvents (c .lines) (joined ps))
-  all-is = whole ∙ fed-is (captureEvents (c .lines) (joined ps)) (streamOf (openedOf c (joined ps)) file [])
+  all-is : fedParts (openedOf c (flatten ps)) file ps ≡ through (streamOf (openedOf c (flatten ps)) file []) (captureEvents (c .lines) (flatten ps))
+  all-is = whole ∙ fed-is (captureEvents (c .lines) (flatten ps)) (streamOf (openedOf c (flatten ps)) file [])
 
-  pub parts-answers : fedParts (openedOf c (joined ps)) file ps .out ≡ eventsAnswers 0 (lent c file) (captureEvents (c .lines) (joined ps))
+  pub parts-answers : fedParts (openedOf c (flatten ps)) file ps .out ≡ eventsAnswers 0 (lent c file) (captureEvents (c .lines) (flatten ps))
   parts-answers = ap (λ (t : Stream). t .out) all-is
 
-  pub parts-run : fedParts (openedOf c (joined ps)) file ps .lent ≡ run (captureEvents (c .lines) (joined ps)) (lent c file) .lent
+  pub parts-run : fedParts (openedOf c (flatten ps)) file ps .lent ≡ run (captureEvents (c .lines) (flatten ps)) (lent c file) .lent
   parts-run = ap (λ (t : Stream). t .lent) all-is

@@ -46,10 +46,6 @@ abbrev pub fedParts : Session → List ℕ → List (List ℕ) → Stream
 fedParts s file [] = streamOf s file []
 fedParts s file (p ∷ ps) = behind (fedPart s file p .out) (fedParts (sessionAfter s file p) (fileAfter s file p) ps)
 
-abbrev pub joined : List (List ℕ) → List ℕ
-joined [] = []
-joined (p ∷ ps) = p ++ joined ps
-
 -- "a whole number of six-byte samples", in each part
 abbrev pub WholeSamples : List (List ℕ) → Type 0
 WholeSamples [] = Unit {0}

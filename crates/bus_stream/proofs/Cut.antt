@@ -1,7 +1,7 @@
 -- "reads event lines from standard input": wherever the input is cut, what is put out is the whole text's answers, none lost and none twice.
 use Prim.Native.Nat.{ℕ, _+_, _-_, _≤_}
 use mathlib.Core.Path.{_≡_, refl, sym, ap, _∙_}
-use mathlib.Core.List.{List, [], _∷_, _++_, append-assoc, append-nil}
+use mathlib.Core.List.{List, [], _∷_, _++_, flatten, append-assoc, append-nil}
 use mathlib.Core.Bool.{Bool, true, false, _&&_}
 use native.Mathlib.Omega.{arith}
 use lib.Dec.{eqb}
@@ -15,7 +15,7 @@ use Rattle.bus_text.specs.Scan.{fedOf, hasByteOf}
 use Rattle.bus_stream.specs.declared.Session.{Session}
 use Rattle.bus_stream.specs.Stream.{Stream, streamOf, openedOf, answeredOf, scannedOf, fedByte, fedBytes, closedOf, answersOf}
 use Rattle.bus_stream.specs.declared.Turn.{Turn}
-use Rattle.bus_stream.specs.Parts.{isFull, fittingBytes, partsAnswers, joined}
+use Rattle.bus_stream.specs.Parts.{isFull, fittingBytes, partsAnswers}
 use Rattle.bus_stream.specs.Kept.{Fed}
 
 -- bytes and then bytes
@@ -69,15 +69,16 @@ whole-behind p q s file =
     let e : t ≡ behind (t .out) (streamOf (t .session) (t .file) []) = ap (λ (l : List ℕ). streamOf (t .session) (t .file) l) (sym (append-nil (t .out))) in
     fed-behind p q (streamOf s file []) ∙ ap (λ (v : Stream). fedBytes v q) e ∙ bytes-behind (t .out) q (streamOf (t .session) (t .file) [])
 
-parts-join : (ps : List (List ℕ)) (s : Session) (file : List ℕ) → partsAnswers s file ps ≡ closedOf (fedBytes (streamOf s file []) (joined ps)) .out
+parts-join : (ps : List (List ℕ)) (s : Session) (file : List ℕ) → partsAnswers s file ps ≡ closedOf (fedBytes (streamOf s file []) (flatten ps)) .out
+unfolding flatten
 parts-join [] s file = refl
 parts-join (p ∷ ps) s file =
     let t = fedBytes (streamOf s file []) p in
     ap (λ (l : List ℕ). t .out ++ l) (parts-join ps (t .session) (t .file))
-    ∙ sym (ap (λ (v : Stream). closedOf v .out) (whole-behind p (joined ps) s file)
-    ∙ ap (λ (v : Stream). v .out) (closed-behind (t .out) (fedBytes (streamOf (t .session) (t .file) []) (joined ps))))
+    ∙ sym (ap (λ (v : Stream). closedOf v .out) (whole-behind p (flatten ps) s file)
+    ∙ ap (λ (v : Stream). v .out) (closed-behind (t .out) (fedBytes (streamOf (t .session) (t .file) []) (flatten ps))))
 
-pub cut-anywhere : (c : Chain) (file : List ℕ) (parts : List (List ℕ)) → partsAnswers (openedOf c) file parts ≡ answersOf c file (joined parts)
+pub cut-anywhere : (c : Chain) (file : List ℕ) (parts : List (List ℕ)) → partsAnswers (openedOf c) file parts ≡ answersOf c file (flatten parts)
 cut-anywhere c file parts = parts-join parts (openedOf c) file
 
 -- "chain and file": those that the first i bytes of a block left go on through a turn over the next

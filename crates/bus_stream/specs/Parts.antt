@@ -34,7 +34,3 @@ partsAnswers s file [] = closedOf (streamOf s file []) .out
 partsAnswers s file (p ∷ ps) =
     let t = fedBytes (streamOf s file []) p in
     t .out ++ partsAnswers (t .session) (t .file) ps
-
-abbrev pub joined : List (List ℕ) → List ℕ
-joined [] = []
-joined (p ∷ ps) = p ++ joined ps
