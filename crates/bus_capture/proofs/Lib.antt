@@ -1,4 +1,5 @@
 pub mod Running
+pub mod Stopping
 pub mod Turning
 pub mod Whole
 pub mod Cut

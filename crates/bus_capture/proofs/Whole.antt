@@ -3,7 +3,6 @@ use Prim.Native.Nat.{ℕ}
 use mathlib.Core.Path.{_≡_, refl, sym, ap, _∙_}
 use mathlib.Core.List.{List, [], _∷_, _++_, append-assoc, append-nil}
 use mathlib.Core.Bool.{Bool, true, false}
-use lib.ListN.{take}
 use Rattle.counts.specs.Choice.{if_then_else_}
 use Rattle.event.specs.Numbers.{Numbers}
 use Rattle.chain_step.specs.Run.{lentAfter, lentThrough}
@@ -14,6 +13,7 @@ use Rattle.bus_capture.specs.declared.Turn.{Turn}
 use Rattle.bus_capture.specs.Answers.{replyTo, eventsAnswers, countAfter}
 use Rattle.bus_capture.specs.Stream.{Stream, streamOf, answeredOf, fedEvents, isFull, ranOf, leftOf}
 use Rattle.bus_capture.specs.Parts.{partEvents}
+use Rattle.bus_capture.specs.Turns.{ranPart}
 use Rattle.bus_capture.specs.Kept.{Fed, Together}
 
 -- the stream behind a list of events, all at once
@@ -44,13 +44,15 @@ left-joins (n ∷ l) t = at-test (isFull t) (left-joins l (answeredOf t n))
 pub turn-joins : {part file out file′ out′ : List ℕ} {s : Session} {r : Turn} → Fed part s file out r file′ out′ → Together part s file r file′ out′
 turn-joins {part} {file} {out} {file′} {out′} {s} {r} f =
     let t = streamOf s file [] in
-    let u = streamOf (r .session) file′ (take (r .at) out′) in
+    let u = ranPart s file part in
     let m = toCome (r .session .at) part (r .used) in
     let e : through u m ≡ through t (partEvents s part) =
-    sym (fed-is m u) ∙ rw (f .is, f .left) (left-joins (partEvents s part) t) ∙ fed-is (partEvents s part) t in
+    sym (fed-is m u) ∙ rw (f .left) (left-joins (partEvents s part) t) ∙ fed-is (partEvents s part) t in
+    let c : r .session .chain ≡ u .lent .chain = ap (λ (x : Turn). x .session .chain) (f .is) in
+    let n : r .session .lines ≡ u .lines = ap (λ (x : Turn). x .session .lines) (f .is) in
     record {
-      puts = ap (λ (v : Stream). v .out) e;
-      lent = ap (λ (v : Stream). v .lent) e;
-      lines = ap (λ (v : Stream). v .lines) e;
+      puts = rw (f .puts, f .keeps, c, n) (ap (λ (v : Stream). v .out) e);
+      lent = rw (f .keeps, c) (ap (λ (v : Stream). v .lent) e);
+      lines = rw n (ap (λ (v : Stream). v .lines) e);
       last = f .last;
     }

@@ -1,5 +1,5 @@
 -- What the functions leave in the lent output and file, beside what they return.
-use Prim.Native.Nat.{ℕ, _+_, _-_, _%_, _≤_, _<_}
+use Prim.Native.Nat.{ℕ, _+_, _-_, _≤_, _<_}
 use mathlib.Core.Path.{_≡_}
 use mathlib.Core.List.{List, [], _++_}
 use lib.ListN.{length, take, drop}
@@ -15,8 +15,9 @@ use Rattle.bus_capture.specs.declared.Session.{Session}
 use Rattle.bus_capture.specs.declared.Waiting.{Waiting}
 use Rattle.bus_capture.specs.declared.Turn.{Turn}
 use Rattle.bus_capture.specs.Answers.{eventsAnswers, countAfter}
-use Rattle.bus_capture.specs.Stream.{streamOf, answeredOf, ranOf, leftOf}
+use Rattle.bus_capture.specs.Stream.{streamOf, answeredOf, leftOf}
 use Rattle.bus_capture.specs.Parts.{partEvents, lastOf}
+use Rattle.bus_capture.specs.Turns.{ranPart, turnOf}
 
 -- an event answered: the stream whose bytes put out are those that wait; the output behind them is kept
 pub record Answers (s : Session) (kind a : ℕ) (reached : Sample) (file out : List ℕ) (at : ℕ) (r : Waiting) (file′ out′ : List ℕ) : Type 0 where
@@ -27,20 +28,18 @@ pub record Answers (s : Session) (kind a : ℕ) (reached : Sample) (file out : L
   pub near : r .at ≤ at + longestLine
   pub holds : r .at ≤ length out′
 
--- a part run from an output with nothing waiting: the first four give all that is left; the others follow, for the caller's loop
+-- a part run from an output with nothing waiting: the first three give all that is left; the others follow, for the caller's loop
 pub record Fed (part : List ℕ) (s : Session) (file out : List ℕ) (r : Turn) (file′ out′ : List ℕ) : Type 0 where
-  -- record, file, count and what is put out are those of as many events as fit
-  pub is : streamOf (r .session) file′ (take (r .at) out′) ≡ ranOf (streamOf s file []) (partEvents s part)
-  -- the others are still to come, over the rest of the part
+  pub is : r ≡ turnOf s file part
+  pub keeps : file′ ≡ ranPart s file part .lent .file
+  pub holds : out′ ≡ over (ranPart s file part .out) out
+  pub puts : take (r .at) out′ ≡ ranPart s file part .out
+  -- the events that did not fit are still to come, over the rest of the part
   pub left : toCome (r .session .at) part (r .used) ≡ leftOf (streamOf s file []) (partEvents s part)
   -- and the part's last sample is still the last
   pub last : lastOf (r .session .at) (samplesOf (drop (r .used) part)) ≡ lastOf (s .at) (samplesOf part)
-  pub holds : out′ ≡ over (ranOf (streamOf s file []) (partEvents s part) .out) out
   pub within : r .at ≤ blockLength
   pub used : r .used ≤ length part
-  pub samples : r .used % sampleLength ≡ 0
-  -- no event is left: the part's whole samples are used up
-  pub ends : toCome (r .session .at) part (r .used) ≡ [] → length part - r .used < sampleLength
   pub goes : sampleLength ≤ length part → length (toCome (r .session .at) part (r .used)) + (length part - r .used) < length (partEvents s part) + length part
 
 -- what a turn leaves and what is still to come over the rest of the part are together the whole part

@@ -1,4 +1,5 @@
 pub mod Answers
 pub mod Stream
 pub mod Parts
+pub mod Turns
 pub mod Kept

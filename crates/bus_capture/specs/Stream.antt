@@ -6,6 +6,8 @@ use lib.Dec.{ltb}
 use lib.ListN.{length}
 use Rattle.counts.specs.Choice.{if_then_else_}
 use Rattle.event.specs.Numbers.{Numbers}
+use Rattle.capture_samples.specs.declared.Sample.{Sample}
+use Rattle.capture_events.specs.Coming.{reachedBy}
 use Rattle.chain_step.specs.Run.{Lent, lent, lentAfter}
 use Rattle.bus_text.specs.AnswerLine.{longestLine}
 use Rattle.bus_reply.specs.Reply.{lineCount, lineAnswer}
@@ -48,3 +50,8 @@ ranOf t (n ∷ l) = if isFull t then t else (ranOf (answeredOf t n) l)
 unfoldable pub leftOf : Stream → List Numbers → List Numbers
 leftOf t [] = []
 leftOf t (n ∷ l) = if isFull t then n ∷ l else (leftOf (answeredOf t n) l)
+
+-- and what is reached by those that fit
+unfoldable pub reachedOf : Stream → List Numbers → Sample → Sample
+reachedOf t [] at = at
+reachedOf t (n ∷ l) at = if isFull t then at else (reachedOf (answeredOf t n) l (reachedBy n at))

@@ -10,6 +10,7 @@ use Rattle.capture_samples.specs.declared.Sample.{Sample}
 use Rattle.capture_samples.specs.Samples.{sampleLength, sampleOf, samplesIn, samplesOf}
 use Rattle.capture_samples.proofs.Sampling.{next-sample, samples-end}
 use Rattle.capture_events.specs.Events.{eventOf, gapOf, longest, passing, passingOf, changesOf, eventsTo, eventsBehind, eventsOf, captureEvents}
+use Rattle.capture_events.specs.declared.Ahead.{Ahead}
 use Rattle.capture_events.specs.declared.Ahead.the-variants.{Event, Reached}
 use Rattle.capture_events.specs.Coming.{reachedBy, firstFrom, nextOf, Coming, startOf, toCome}
 use Rattle.capture_events.proofs.Passing.{gap-back, no-gap, gap-less, nothing-passes, span-passes, rest-passes}
@@ -67,6 +68,15 @@ module _ (at to : Sample) where
   pub none-next : eventsTo at to ≡ [] → Coming at to Reached
   unfolding nextOf
   none-next k = record { is = sym (ap (λ (l : List Numbers). firstFrom l at) k); comes = k }
+
+-- what the next tells, where it is an event, is what the event reaches
+abbrev reachOf : Sample → Ahead → Sample
+reachOf at (Event kind a further) = further
+reachOf at Reached = at
+
+pub told-reached : {at to : Sample} {kind a : ℕ} {further : Sample} → Coming at to (Event kind a further) → further ≡ reachedBy (eventOf kind a) at
+unfolding nextOf
+told-reached {at} c = ap (reachOf at) (c .is ∙ ap (λ (l : List Numbers). firstFrom l at) (c .comes))
 
 -- the first sample takes no time
 first-from : (n : ℕ) (start : Lines) (bytes : List ℕ) → eventsOf start (samplesIn n bytes) ≡ eventsBehind (startOf start bytes) (samplesIn n bytes)

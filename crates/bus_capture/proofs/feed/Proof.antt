@@ -50,7 +50,7 @@ returns c =
     let l = c .before .before .before .before .before .before .before .before .loop in
     let t = c .before .before .before .before .before .before .before .loop-test .taken in
     let e = rw rest at (c .before .before .before .before .before .sample-of .ensures) in
-    let n = rw (c .before .before .ahead .given .1) at (c .before .before .before .before .next .ensures .comes) in
+    let n = rw (c .before .before .ahead .given .1) at (c .before .before .before .before .next .ensures) in
     stops-before (l .inv) _ t e _ _ _ n (omega (arith, c .if1 .taken))
 
 answered-requires : tie.Need-answered-requires Inv-loop μ-loop
@@ -61,7 +61,7 @@ loop-less c =
     let l = c .before .before .before .before .before .before .before .before .before .before .before .before .before .before .loop in
     let t = c .before .before .before .before .before .before .before .before .before .before .before .before .before .loop-test .taken in
     let e = rw rest at (c .before .before .before .before .before .before .before .before .before .before .before .sample-of .ensures) in
-    let n = rw (c .before .before .before .before .before .before .before .before .ahead .given .1) at (c .before .before .before .before .before .before .before .before .before .before .next .ensures .comes) in
+    let n = rw (c .before .before .before .before .before .before .before .before .ahead .given .1) at (c .before .before .before .before .before .before .before .before .before .before .next .ensures) in
     rw (c .before .before .before .answered .ensures .reaches) (event-fewer (l .inv) _ t e _ _ _ n)
 
 loop-again : tie.Need-loop-again Inv-loop μ-loop
@@ -69,7 +69,7 @@ loop-again c =
     let l = c .before .before .before .before .before .before .before .before .before .before .before .before .before .before .loop in
     let t = c .before .before .before .before .before .before .before .before .before .before .before .before .before .loop-test .taken in
     let e = rw rest at (c .before .before .before .before .before .before .before .before .before .before .before .sample-of .ensures) in
-    let n = rw (c .before .before .before .before .before .before .before .before .ahead .given .1) at (c .before .before .before .before .before .before .before .before .before .before .next .ensures .comes) in
+    let n = rw (c .before .before .before .before .before .before .before .before .ahead .given .1) at (c .before .before .before .before .before .before .before .before .before .before .next .ensures) in
     let a = c .before .before .before .answered in
     answers-on (l .inv) _ t e _ _ _ n (omega (arith, c .before .before .before .before .before .before .if1 .left)) (a .kept .1 .1 .0) (a .ensures)
 
