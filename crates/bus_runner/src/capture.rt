@@ -22,6 +22,12 @@ struct Got {
     good: bool,
 }
 
+// What the first reading found.
+pub struct Found {
+    pub good: bool,
+    pub length: u64,
+}
+
 struct Run {
     session: Session,
     // false once a write failed, or the capture changed
@@ -78,40 +84,73 @@ fn good_front(block: &[u8], n: usize) -> usize
 }
 
 // Looks at every block, and says where the first bad sample stands in the whole capture.
-fn looked(fd: i32, path: &[u8], block: &mut [u8; PART]) -> bool {
-    let mut place = 0;
+fn looked(fd: i32, path: &[u8], block: &mut [u8; PART]) -> Found {
+    let mut length = 0;
     let mut turns = u64::MAX;
     while turns > 0 {
         let got = filled(fd, path, block);
         if !got.good {
-            return false;
+            return Found {
+                good: false,
+                length,
+            };
         }
         let good = good_front(block, got.n);
         if good != got.n {
-            complain_bad(path, std::num::wrapping_add_u64(place, good as u64));
-            return false;
+            complain_bad(path, std::num::wrapping_add_u64(length, good as u64));
+            return Found {
+                good: false,
+                length,
+            };
         }
+        length = std::num::wrapping_add_u64(length, got.n as u64);
         if got.n < PART {
-            return true;
+            return Found { good: true, length };
         }
-        place = std::num::wrapping_add_u64(place, PART as u64);
         turns -= 1;
     }
-    true
+    Found { good: true, length }
 }
 
-// Whether the file is a capture; where not, why is said.
-pub fn good(path: &[u8]) -> bool {
+// Whether the file is a capture, and how long; where it is none, why is said.
+pub fn look(path: &[u8]) -> Found {
     let fd = os::open_read(path);
     if fd < 0 {
         os::fail(path);
         crate::usage();
-        return false;
+        return Found {
+            good: false,
+            length: 0,
+        };
     }
     let mut block = [0u8; PART];
-    let good = looked(fd, path, &mut block);
+    let found = looked(fd, path, &mut block);
     libc::close(fd);
-    good
+    found
+}
+
+// How long the next block of a capture is, by what is left of it.
+fn next_length(left: u64) -> u64 {
+    if left < PART as u64 {
+        return left;
+    }
+    PART as u64
+}
+
+// Reads the next block anew, which is as long as it was when it was looked at.
+fn filled_anew(fd: i32, path: &[u8], block: &mut [u8; PART], left: u64) -> Got
+    ensures { λ r. ⌜ r .n ≤ 65_532 ⌝ }
+{
+    let got = filled(fd, path, block);
+    let n = got.n;
+    if !got.good {
+        return Got { n, good: false };
+    }
+    if n as u64 != next_length(left) {
+        complain_changed(path);
+        return Got { n, good: false };
+    }
+    Got { n, good: true }
 }
 
 // Runs a part of whole samples. Every answer goes out before the next part is read; without a reader nothing more is run.
@@ -162,13 +201,14 @@ fn opened(chain: Chain, block: &[u8], n: usize) -> Session
     bus_capture::opened(chain, &block[..n])
 }
 
-// Runs every block, from the first, of which n bytes were read.
+// Runs every block, from the first, of which n bytes were read; so many are left behind it.
 // A proved loop must end, so this one counts its turns down from a number that no run reaches.
 fn run_all(
     fd: i32,
     path: &[u8],
     block: &mut [u8; PART],
     first: usize,
+    rest: u64,
     out: &mut [u8; BLOCK],
     file: &mut [u8],
     begun: Run,
@@ -177,6 +217,7 @@ fn run_all(
 {
     let mut r = begun;
     let mut n = first;
+    let mut left = rest;
     let mut turns = u64::MAX;
     while turns > 0 {
         r = taken(path, block, n, out, file, r);
@@ -186,11 +227,12 @@ fn run_all(
         if n < PART {
             return;
         }
-        let got = filled(fd, path, block);
+        let got = filled_anew(fd, path, block, left);
         if !got.good {
             return;
         }
         n = got.n;
+        left = std::num::wrapping_sub_u64(left, n as u64);
         turns -= 1;
     }
 }
@@ -200,19 +242,22 @@ fn serve_in(
     file: &mut [u8],
     fd: i32,
     path: &[u8],
+    length: u64,
     block: &mut [u8; PART],
     out: &mut [u8; BLOCK],
 ) {
-    let got = filled(fd, path, block);
+    let got = filled_anew(fd, path, block, length);
     if !got.good {
         return;
     }
-    let session = opened(chain, block, got.n);
+    let n = got.n;
+    let session = opened(chain, block, n);
     run_all(
         fd,
         path,
         block,
-        got.n,
+        n,
+        std::num::wrapping_sub_u64(length, n as u64),
         out,
         file,
         Run {
@@ -222,8 +267,8 @@ fn serve_in(
     );
 }
 
-// Answers every event of the capture.
-pub fn serve(chain: Chain, file: &mut [u8], path: &[u8]) {
+// Answers every event of the capture, which was so long when it was looked at.
+pub fn serve(chain: Chain, file: &mut [u8], path: &[u8], length: u64) {
     let fd = os::open_read(path);
     if fd < 0 {
         os::fail(path);
@@ -231,6 +276,6 @@ pub fn serve(chain: Chain, file: &mut [u8], path: &[u8]) {
     }
     let mut block = [0u8; PART];
     let mut out = io::large_buffer();
-    serve_in(chain, file, fd, path, &mut block, &mut out);
+    serve_in(chain, file, fd, path, length, &mut block, &mut out);
     libc::close(fd);
 }

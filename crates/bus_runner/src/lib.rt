@@ -60,21 +60,21 @@ fn complain_refused(why: Refusal, place: Place) {
     complain(b"\n");
 }
 
-// The events are those of the capture that is named, or standard input's where none is.
-fn serve(chain: Chain, file: &mut [u8], events: &[u8]) {
+// The events are those of the capture that is named, and is so long, or standard input's where none is.
+fn serve(chain: Chain, file: &mut [u8], events: &[u8], length: u64) {
     if events.len() == 0 {
         stream::serve(chain, file);
         return;
     }
-    capture::serve(chain, file, events);
+    capture::serve(chain, file, events, length);
 }
 
 // Answers the events over a pack file in memory.
-fn run(file: &mut [u8], events: &[u8]) {
+fn run(file: &mut [u8], events: &[u8], length: u64) {
     let fitted = chain_fit::fit(file);
     let answer = fitted.answer;
     match answer {
-        Reading::Whole => serve(fitted.chain, file, events),
+        Reading::Whole => serve(fitted.chain, file, events, length),
         Reading::Refused(why, place) => complain_refused(why, place),
     }
 }
@@ -86,15 +86,15 @@ fn lay_at(file: &mut [u8], place: usize, p: Profile)
 }
 
 // The smallest drive in slots 1 and 3.
-fn run_two(file: &mut [u8; TWO], events: &[u8]) {
+fn run_two(file: &mut [u8; TWO], events: &[u8], length: u64) {
     lay_at(file, 0, bus_smallest::drive(1));
     lay_at(file, bus_smallest::PACK, bus_smallest::drive(3));
-    run(file, events);
+    run(file, events, length);
 }
 
-fn run_smallest(events: &[u8]) {
+fn run_smallest(events: &[u8], length: u64) {
     let mut file = [0u8; TWO];
-    run_two(&mut file, events);
+    run_two(&mut file, events, length);
 }
 
 // Whether the file has no byte past those read.
@@ -115,21 +115,21 @@ fn at_end(fd: i32, path: &[u8]) -> bool {
     false
 }
 
-fn run_open(fd: i32, path: &[u8], room: &mut [u8], events: &[u8]) {
+fn run_open(fd: i32, path: &[u8], room: &mut [u8], events: &[u8], length: u64) {
     let n = io::read_full(fd, room);
     let whole = at_end(fd, path);
     libc::close(fd);
     if whole {
-        run(&mut room[..n], events);
+        run(&mut room[..n], events, length);
     }
 }
 
 // The room is lent as an array here, so that its length needs no proof.
-fn run_in(fd: i32, path: &[u8], room: &mut [u8; LIMIT], events: &[u8]) {
-    run_open(fd, path, room, events);
+fn run_in(fd: i32, path: &[u8], room: &mut [u8; LIMIT], events: &[u8], length: u64) {
+    run_open(fd, path, room, events, length);
 }
 
-fn run_named(path: &[u8], events: &[u8]) {
+fn run_named(path: &[u8], events: &[u8], length: u64) {
     let fd = os::open_read(path);
     if fd < 0 {
         os::fail(path);
@@ -137,7 +137,7 @@ fn run_named(path: &[u8], events: &[u8]) {
         return;
     }
     let mut room = [0u8; LIMIT];
-    run_in(fd, path, &mut room, events);
+    run_in(fd, path, &mut room, events, length);
 }
 
 // Whether a word is `--capture`.
@@ -158,11 +158,12 @@ fn is_capture(word: &[u8]) -> bool {
 
 // The pack file of a capture, where the words name one.
 fn run_captured(words: usize, events: &[u8]) {
-    if !capture::good(events) {
+    let found = capture::look(events);
+    if !found.good {
         return;
     }
     if words == 3 {
-        run_smallest(events);
+        run_smallest(events, found.length);
         return;
     }
     let mut path = io::buffer();
@@ -172,7 +173,7 @@ fn run_captured(words: usize, events: &[u8]) {
         usage();
         return;
     }
-    run_named(&path[..n], events);
+    run_named(&path[..n], events, found.length);
 }
 
 fn start_capture(words: usize) {
@@ -200,7 +201,7 @@ fn start_capture(words: usize) {
 pub fn start() {
     let words = os::arg_count();
     if words < 2 {
-        run_smallest(b"");
+        run_smallest(b"", 0);
         return;
     }
     let mut word = io::buffer();
@@ -219,5 +220,5 @@ pub fn start() {
         usage();
         return;
     }
-    run_named(&word[..n], b"");
+    run_named(&word[..n], b"", 0);
 }

@@ -4,10 +4,10 @@ use Rattle.bus_runner.proofs.capture.looked.Statement.{statement}
 use Rattle.bus_runner.proofs.capture.looked.Tie as tie
 
 abbrev Inv-loop : tie.InvT-loop
-Inv-loop fd path block₀ place₀ turns₀ block place turns = Unit {0}
+Inv-loop fd path block₀ length₀ turns₀ block length turns = Unit {0}
 
 abbrev μ-loop : tie.MeasureT-loop
-μ-loop fd path block₀ place₀ turns₀ block place turns = turns
+μ-loop fd path block₀ length₀ turns₀ block length turns = turns
 
 loop-holds : tie.Need-loop-holds Inv-loop μ-loop
 loop-holds c = search needs
@@ -30,11 +30,11 @@ complain-bad-requires c κs = search needs
 returns-2 : tie.Need-returns-2 Inv-loop μ-loop
 returns-2 c = search needs
 
-returns-3 : tie.Need-returns-3 Inv-loop μ-loop
-returns-3 c = search needs
-
 wrapping-add-u64-requires-2 : tie.Need-wrapping-add-u64-requires-2 Inv-loop μ-loop
 wrapping-add-u64-requires-2 c κs = search needs
+
+returns-3 : tie.Need-returns-3 Inv-loop μ-loop
+returns-3 c = search needs
 
 sub-turns : tie.Need-sub-turns Inv-loop μ-loop
 sub-turns c = search needs
@@ -61,8 +61,8 @@ looked-spec =
     wrapping-add-u64-requires
     complain-bad-requires
     returns-2
-    returns-3
     wrapping-add-u64-requires-2
+    returns-3
     sub-turns
     loop-less
     loop-again

@@ -1,16 +1,16 @@
 -- `bus_runner::capture::run_all` is safe and ends: a block holds what was read, the file keeps its length, and the turns run down.
 use Prim.Native.Nat.{_≤_}
-use mathlib.Core.Path.{_≡_}
+use mathlib.Core.Path.{_≡_, _∙_}
 use lib.ListN.{length}
 use borrow.Author.Needs.{needs}
 use Rattle.bus_runner.proofs.capture.run_all.Statement.{statement}
 use Rattle.bus_runner.proofs.capture.run_all.Tie as tie
 
 abbrev Inv-loop : tie.InvT-loop
-Inv-loop fd path block₀ first out₀ file₀ r₀ n₀ turns₀ block out file r n turns = (n ≤ 65_532) × (length file ≡ length file₀)
+Inv-loop fd path block₀ first rest out₀ file₀ r₀ n₀ left₀ turns₀ block out file r n left turns = (n ≤ 65_532) × (length file ≡ length file₀)
 
 abbrev μ-loop : tie.MeasureT-loop
-μ-loop fd path block₀ first out₀ file₀ r₀ n₀ turns₀ block out file r n turns = turns
+μ-loop fd path block₀ first rest out₀ file₀ r₀ n₀ left₀ turns₀ block out file r n left turns = turns
 
 loop-holds : tie.Need-loop-holds Inv-loop μ-loop
 loop-holds c = search needs
@@ -30,14 +30,17 @@ same-length-2 c = search needs
 returns-2 : tie.Need-returns-2 Inv-loop μ-loop
 returns-2 c = search needs
 
-filled-requires : tie.Need-filled-requires Inv-loop μ-loop
-filled-requires c κs = search needs
+filled-anew-requires : tie.Need-filled-anew-requires Inv-loop μ-loop
+filled-anew-requires c κs = search needs
 
 same-length-3 : tie.Need-same-length-3 Inv-loop μ-loop
 same-length-3 c = search needs
 
 returns-3 : tie.Need-returns-3 Inv-loop μ-loop
 returns-3 c = search needs
+
+wrapping-sub-u64-requires : tie.Need-wrapping-sub-u64-requires Inv-loop μ-loop
+wrapping-sub-u64-requires c κs = search needs
 
 sub-turns : tie.Need-sub-turns Inv-loop μ-loop
 sub-turns c = search needs
@@ -46,7 +49,7 @@ loop-less : tie.Need-loop-less Inv-loop μ-loop
 loop-less c = search needs
 
 loop-again : tie.Need-loop-again Inv-loop μ-loop
-loop-again c = search needs
+loop-again c = (c .before .before .before .filled-anew .ensures, c .before .before .before .before .before .before .before .before .before .before .taken .kept .1 .1 .1 .1 .0 ∙ c .before .before .before .before .before .before .before .before .before .before .before .before .before .before .before .before .loop .inv .1)
 
 same-length-4 : tie.Need-same-length-4 Inv-loop μ-loop
 same-length-4 c = search needs
@@ -66,9 +69,10 @@ run-all-spec =
     returns
     same-length-2
     returns-2
-    filled-requires
+    filled-anew-requires
     same-length-3
     returns-3
+    wrapping-sub-u64-requires
     sub-turns
     loop-less
     loop-again
