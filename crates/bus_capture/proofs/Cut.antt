@@ -10,19 +10,14 @@ use Rattle.chain_step.specs.Run.{lent, run}
 use Rattle.capture_samples.specs.declared.Sample.{Sample}
 use Rattle.capture_samples.specs.Samples.{sampleLength, samplesOf}
 use Rattle.capture_samples.proofs.Sampling.{no-sample, front-sample, samples-behind}
-use Rattle.capture_events.specs.Events.{eventsTo, eventsBehind, captureEvents}
-use Rattle.capture_events.proofs.Coming.{from-start}
+use Rattle.capture_events.specs.Events.{eventsBehind, captureEvents}
+use Rattle.capture_events.specs.Coming.{lastOf}
+use Rattle.capture_events.proofs.Coming.{from-start, behind-last}
 use Rattle.bus_capture.specs.declared.Session.{Session}
 use Rattle.bus_capture.specs.Answers.{eventsAnswers}
 use Rattle.bus_capture.specs.Stream.{Stream, streamOf, answeredOf, fedEvents}
-use Rattle.bus_capture.specs.Parts.{openedOf, lastOf, fedPart, sessionAfter, fileAfter, behind, fedParts, WholeSamples}
+use Rattle.bus_capture.specs.Parts.{openedOf, fedPart, sessionAfter, fileAfter, behind, fedParts, WholeSamples}
 use Rattle.bus_capture.proofs.Whole.{through, fed-is}
-
--- samples and then samples
-pub behind-last : (xs ys : List Sample) (s : Sample) → eventsBehind s (xs ++ ys) ≡ eventsBehind s xs ++ eventsBehind (lastOf s xs) ys
-behind-last [] ys s = refl
-behind-last (x ∷ xs) ys s =
-    ap (λ (l : List Numbers). eventsTo s x ++ l) (behind-last xs ys x) ∙ sym (append-assoc (eventsTo s x) (eventsBehind x xs) (eventsBehind (lastOf x xs) ys))
 
 -- events and then events
 fed-behind : (xs ys : List Numbers) (t : Stream) → fedEvents t (xs ++ ys) ≡ fedEvents (fedEvents t xs) ys

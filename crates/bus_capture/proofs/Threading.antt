@@ -10,13 +10,13 @@ use Rattle.chain_step.specs.Run.{lent, lentThrough}
 use Rattle.capture_samples.specs.declared.Sample.{Sample}
 use Rattle.capture_samples.specs.Samples.{sampleLength, samplesOf}
 use Rattle.capture_samples.proofs.Sampling.{samples-end}
-use Rattle.capture_events.specs.Coming.{toCome}
+use Rattle.capture_events.specs.Coming.{lastOf, toCome}
 use Rattle.capture_events.proofs.Coming.{none-come}
 use Rattle.bus_capture.specs.declared.Session.{Session}
 use Rattle.bus_capture.specs.declared.Turn.{Turn}
 use Rattle.bus_capture.specs.Answers.{countAfter}
 use Rattle.bus_capture.specs.Stream.{streamOf}
-use Rattle.bus_capture.specs.Parts.{partEvents, lastOf, sessionAfter, fileAfter}
+use Rattle.bus_capture.specs.Parts.{partEvents, sessionAfter, fileAfter}
 use Rattle.bus_capture.specs.Kept.{Fed, Threads}
 use Rattle.bus_capture.proofs.Whole.{fed-is, turn-joins}
 

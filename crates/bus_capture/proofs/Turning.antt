@@ -14,12 +14,12 @@ use Rattle.capture_samples.specs.Samples.{sampleLength, sampleOf, samplesOf}
 use Rattle.capture_samples.proofs.Sampling.{next-sample, samples-end}
 use Rattle.capture_events.specs.Events.{eventOf, eventsTo}
 use Rattle.capture_events.specs.declared.Ahead.the-variants.{Event}
-use Rattle.capture_events.specs.Coming.{Coming, toCome}
+use Rattle.capture_events.specs.Coming.{Coming, lastOf, toCome}
 use Rattle.capture_events.proofs.Coming.{told-reached, event-comes, sample-comes, none-come}
 use Rattle.bus_capture.specs.declared.Session.{Session}
 use Rattle.bus_capture.specs.declared.Waiting.{Waiting}
 use Rattle.bus_capture.specs.Stream.{Stream, streamOf, ranOf, leftOf}
-use Rattle.bus_capture.specs.Parts.{partEvents, lastOf}
+use Rattle.bus_capture.specs.Parts.{partEvents}
 use Rattle.bus_capture.specs.Turns.{stopOf}
 use Rattle.bus_capture.specs.Kept.{Answers, Fed}
 use Rattle.bus_capture.proofs.Running.{Goes, goes-none, goes-event, stops-none, stops-full}

@@ -10,13 +10,13 @@ use Rattle.capture_samples.specs.declared.Sample.{Sample}
 use Rattle.capture_samples.specs.Samples.{sampleLength, samplesOf}
 use Rattle.chain_step.specs.Run.{lent, lentThrough}
 use Rattle.capture_events.specs.Events.{eventOf}
-use Rattle.capture_events.specs.Coming.{toCome}
+use Rattle.capture_events.specs.Coming.{lastOf, toCome}
 use Rattle.bus_capture.specs.declared.Session.{Session}
 use Rattle.bus_capture.specs.declared.Waiting.{Waiting}
 use Rattle.bus_capture.specs.declared.Turn.{Turn}
 use Rattle.bus_capture.specs.Answers.{eventsAnswers, countAfter}
 use Rattle.bus_capture.specs.Stream.{streamOf, answeredOf, leftOf}
-use Rattle.bus_capture.specs.Parts.{partEvents, lastOf}
+use Rattle.bus_capture.specs.Parts.{partEvents}
 use Rattle.bus_capture.specs.Turns.{ranPart, turnOf}
 
 -- an event answered: the stream whose bytes put out are those that wait; the output behind them is kept

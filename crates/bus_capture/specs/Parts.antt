@@ -5,10 +5,9 @@ use mathlib.Core.List.{List, [], _∷_, _++_}
 use lib.ListN.{length}
 use Rattle.event.specs.Numbers.{Numbers}
 use Rattle.chain_record.specs.declared.Chain.{Chain}
-use Rattle.capture_samples.specs.declared.Sample.{Sample}
 use Rattle.capture_samples.specs.Samples.{sampleLength, samplesOf}
 use Rattle.capture_events.specs.Events.{eventsBehind}
-use Rattle.capture_events.specs.Coming.{startOf}
+use Rattle.capture_events.specs.Coming.{startOf, lastOf}
 use Rattle.bus_capture.specs.declared.Session.{Session}
 use Rattle.bus_capture.specs.Stream.{Stream, streamOf, fedEvents}
 
@@ -19,11 +18,6 @@ openedOf c part = record { chain = c; at = startOf (c .lines) part; lines = 0 }
 -- the events of a part, from what is reached before it
 abbrev pub partEvents : Session → List ℕ → List Numbers
 partEvents s part = eventsBehind (s .at) (samplesOf part)
-
--- the last sample, or what was reached where there is none
-abbrev pub lastOf : Sample → List Sample → Sample
-lastOf s [] = s
-lastOf s (later ∷ rest) = lastOf later rest
 
 -- all of a part run, from an output with nothing waiting
 abbrev pub fedPart : Session → List ℕ → List ℕ → Stream

@@ -6,7 +6,7 @@ use Rattle.capture_events.specs.Count.{upTo}
 use Rattle.capture_judge.specs.declared.Taking.{Taking}
 use Rattle.capture_judge.specs.declared.Taking.the-variants.{Runs, NotCapture, NoRoom}
 use Rattle.capture_judge.specs.Taking.{takingOf, takingNumber, takingValue}
-use Rattle.capture_run.specs.Captured.{capturedOf, capturedFile, capturedAnswers}
+use Rattle.capture_run.specs.Captured.{capturedOf}
 use Rattle.c_pack.specs.declared.Coded.{Coded}
 use Rattle.c_pack.specs.Code.{secondByte}
 
@@ -23,12 +23,6 @@ takingCode t = countCode (takingNumber t) (takingValue t)
 
 unfoldable pub lentCapture : Chain → List ℕ → List ℕ → ℕ → Coded
 lentCapture c file capture room = record { chain = capturedOf c file capture room .chain; code = takingCode (capturedOf c file capture room .taking) }
-
-unfoldable pub captureFile : Chain → List ℕ → List ℕ → ℕ → List ℕ
-captureFile c file capture room = capturedFile c file capture room
-
-unfoldable pub captureAnswers : Chain → List ℕ → List ℕ → List ℕ → List ℕ
-captureAnswers c file capture answers = capturedAnswers c file capture answers
 
 -- how many answers there will be: no room is asked for, so 37 is none
 abbrev pub countedOf : Taking → ℕ

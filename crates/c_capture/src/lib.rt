@@ -6,7 +6,8 @@ ghost use mathlib.Core.Path.{_≡_};
 ghost use Prim.Native.Nat.{_≤_};
 ghost use lib.ListN.{length};
 ghost use Rattle.capture_events.specs.Count.{upTo};
-ghost use Rattle.c_capture.specs.Capture.{mostCount, countCode, lentCapture, captureFile, captureAnswers, captureCount};
+ghost use Rattle.capture_run.specs.Captured.{capturedFile, capturedAnswers};
+ghost use Rattle.c_capture.specs.Capture.{mostCount, countCode, lentCapture, captureCount};
 
 // What there is room for above the answer's byte.
 const MOST: u64 = 72_057_594_037_927_935;
@@ -30,8 +31,8 @@ fn code(number: u8, n: u64) -> u64
 // A capture on a chain and its file, an answer of two bytes for each event.
 pub fn capture(c: Chain, file: &mut [u8], capture: &[u8], answers: &mut [u8]) -> Coded
     ensures { λ r. ⌜ (r ≡ lentCapture c (now (file .entry)) (now (capture .entry)) (length (now (answers .entry))))
-        × ((now (file .exit) ≡ captureFile c (now (file .entry)) (now (capture .entry)) (length (now (answers .entry))))
-        × (now (answers .exit) ≡ captureAnswers c (now (file .entry)) (now (capture .entry)) (now (answers .entry)))) ⌝ }
+        × ((now (file .exit) ≡ capturedFile c (now (file .entry)) (now (capture .entry)) (length (now (answers .entry))))
+        × (now (answers .exit) ≡ capturedAnswers c (now (file .entry)) (now (capture .entry)) (now (answers .entry)))) ⌝ }
 {
     let ran = capture_run::run(c, file, capture, answers);
     let taking = ran.taking;

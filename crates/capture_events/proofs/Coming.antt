@@ -1,6 +1,6 @@
 -- From one sample to the next: with no time between them, a span passed, the rest passed.
 use mathlib.Core.Path.{_≡_, refl, sym, ap, _∙_}
-use mathlib.Core.List.{List, [], _∷_, _++_}
+use mathlib.Core.List.{List, [], _∷_, _++_, append-assoc}
 use Prim.Native.Nat.{ℕ, zero, suc, _+_, _-_, _/_, _%_, _^_, _≤_, _<_}
 use native.Mathlib.Omega.{arith}
 use lib.ListN.{length, drop}
@@ -12,7 +12,7 @@ use Rattle.capture_samples.proofs.Sampling.{next-sample, samples-end}
 use Rattle.capture_events.specs.Events.{eventOf, gapOf, longest, passing, passingOf, changesOf, eventsTo, eventsBehind, eventsOf, captureEvents}
 use Rattle.capture_events.specs.declared.Ahead.{Ahead}
 use Rattle.capture_events.specs.declared.Ahead.the-variants.{Event, Reached}
-use Rattle.capture_events.specs.Coming.{reachedBy, firstFrom, nextOf, Coming, startOf, toCome}
+use Rattle.capture_events.specs.Coming.{reachedBy, firstFrom, nextOf, Coming, startOf, lastOf, toCome}
 use Rattle.capture_events.proofs.Passing.{gap-back, no-gap, gap-less, nothing-passes, span-passes, rest-passes}
 
 module _ (earlier later : Sample) where
@@ -108,3 +108,9 @@ module _ (to : Sample) (capture : List ℕ) (used : ℕ) (h : sampleLength ≤ l
 
 pub none-come : (at : Sample) (capture : List ℕ) (used : ℕ) → length capture - used < sampleLength → toCome at capture used ≡ []
 none-come at capture used h = ap (λ (l : List Sample). eventsBehind at l) (samples-end capture used h)
+
+-- samples and then samples
+pub behind-last : (xs ys : List Sample) (s : Sample) → eventsBehind s (xs ++ ys) ≡ eventsBehind s xs ++ eventsBehind (lastOf s xs) ys
+behind-last [] ys s = refl
+behind-last (x ∷ xs) ys s =
+    ap (λ (l : List Numbers). eventsTo s x ++ l) (behind-last xs ys x) ∙ sym (append-assoc (eventsTo s x) (eventsBehind x xs) (eventsBehind (lastOf x xs) ys))

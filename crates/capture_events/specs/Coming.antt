@@ -50,6 +50,11 @@ pub record Coming (at to : Sample) (r : Ahead) : Type 0 where
 abbrev pub startOf : Lines → List ℕ → Sample
 startOf start bytes = record { stamp = sampleOf bytes .stamp; lines = start }
 
+-- the last sample, or what was reached where there is none
+abbrev pub lastOf : Sample → List Sample → Sample
+lastOf s [] = s
+lastOf s (later ∷ rest) = lastOf later rest
+
 -- from what is reached on, once so many bytes are used
 abbrev pub toCome : Sample → List ℕ → ℕ → List Numbers
 toCome at capture used = eventsBehind at (samplesOf (drop used capture))

@@ -8,7 +8,7 @@ use Rattle.chain_step.specs.Run.{lent}
 use Rattle.capture_judge.specs.declared.Taking.{Taking}
 use Rattle.capture_judge.specs.declared.Taking.the-variants.{Runs, NotCapture, NoRoom}
 use Rattle.capture_judge.specs.Taking.{takingOf}
-use Rattle.capture_run.specs.Captured.{ranOf, answersIn, RunThrough, lentAs, answersAs, capturedOf, capturedFile, capturedAnswers}
+use Rattle.capture_run.specs.Captured.{ranOf, answersIn, RunThrough, ranOr, capturedOf, capturedFile, capturedAnswers}
 
 module _ (c : Chain) (file capture answers : List ℕ) (taking : Taking) (j : taking ≡ takingOf (c .lines) capture (length answers)) where
   abbrev pub Gives : Chain → List ℕ → List ℕ → Type 0
@@ -16,17 +16,17 @@ module _ (c : Chain) (file capture answers : List ℕ) (taking : Taking) (j : ta
       (record { chain = r; taking = taking } ≡ capturedOf c file capture (length answers))
       × ((file′ ≡ capturedFile c file capture (length answers)) × (answers′ ≡ capturedAnswers c file capture answers))
 
-  gives-file : (t : Taking) (file′ : List ℕ) → taking ≡ t → file′ ≡ lentAs t (ranOf c file capture .lent) (lent c file) .file → file′ ≡ capturedFile c file capture (length answers)
+  gives-file : (t : Taking) (file′ : List ℕ) → taking ≡ t → file′ ≡ ranOr t (ranOf c file capture .lent) (lent c file) .file → file′ ≡ capturedFile c file capture (length answers)
   unfolding capturedFile
-  gives-file t file′ q e = e ∙ ap (λ (x : Taking). lentAs x (ranOf c file capture .lent) (lent c file) .file) (sym q ∙ j)
+  gives-file t file′ q e = e ∙ ap (λ (x : Taking). ranOr x (ranOf c file capture .lent) (lent c file) .file) (sym q ∙ j)
 
-  gives-chain : (t : Taking) (r : Chain) → taking ≡ t → r ≡ lentAs t (ranOf c file capture .lent) (lent c file) .chain → record { chain = r; taking = taking } ≡ capturedOf c file capture (length answers)
+  gives-chain : (t : Taking) (r : Chain) → taking ≡ t → r ≡ ranOr t (ranOf c file capture .lent) (lent c file) .chain → record { chain = r; taking = taking } ≡ capturedOf c file capture (length answers)
   unfolding capturedOf
-  gives-chain t r q e = λ i. record { chain = (e ∙ ap (λ (x : Taking). lentAs x (ranOf c file capture .lent) (lent c file) .chain) (sym q ∙ j)) i; taking = j i }
+  gives-chain t r q e = λ i. record { chain = (e ∙ ap (λ (x : Taking). ranOr x (ranOf c file capture .lent) (lent c file) .chain) (sym q ∙ j)) i; taking = j i }
 
-  gives-answers : (t : Taking) (answers′ : List ℕ) → taking ≡ t → answers′ ≡ answersAs t (answersIn (ranOf c file capture .answers) answers) answers → answers′ ≡ capturedAnswers c file capture answers
+  gives-answers : (t : Taking) (answers′ : List ℕ) → taking ≡ t → answers′ ≡ ranOr t (answersIn (ranOf c file capture .answers) answers) answers → answers′ ≡ capturedAnswers c file capture answers
   unfolding capturedAnswers
-  gives-answers t answers′ q e = e ∙ ap (λ (x : Taking). answersAs x (answersIn (ranOf c file capture .answers) answers) answers) (sym q ∙ j)
+  gives-answers t answers′ q e = e ∙ ap (λ (x : Taking). ranOr x (answersIn (ranOf c file capture .answers) answers) answers) (sym q ∙ j)
 
   pub run-gives : (n : ℕ) → taking ≡ Runs n → {r : Chain} {file′ answers′ : List ℕ} → RunThrough c file capture answers r file′ answers′ → Gives r file′ answers′
   run-gives n q {r} {file′} {answers′} t =

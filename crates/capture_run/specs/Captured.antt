@@ -39,20 +39,15 @@ pub record RunThrough (c : Chain) (file capture answers : List ℕ) (r : Chain) 
   pub is : lent r file′ ≡ ranOf c file capture .lent
   pub says : answers′ ≡ answersIn (ranOf c file capture .answers) answers
 
--- "chain and file as before" where it is refused
-abbrev pub lentAs : Taking → Lent → Lent → Lent
-lentAs (Runs n) ran before = ran
-lentAs (NotCapture place) ran before = before
-lentAs (NoRoom n) ran before = before
-
-abbrev pub answersAs : Taking → List ℕ → List ℕ → List ℕ
-answersAs (Runs n) ran before = ran
-answersAs (NotCapture place) ran before = before
-answersAs (NoRoom n) ran before = before
+-- "chain and file as before" where it is refused, and the answers too
+abbrev pub ranOr : {A : Type 0} → Taking → A → A → A
+ranOr (Runs n) ran before = ran
+ranOr (NotCapture place) ran before = before
+ranOr (NoRoom n) ran before = before
 
 -- what is left of record and file, with so much room for the answers
 abbrev pub capturedLent : Chain → List ℕ → List ℕ → ℕ → Lent
-capturedLent c file capture room = lentAs (takingOf (c .lines) capture room) (ranOf c file capture .lent) (lent c file)
+capturedLent c file capture room = ranOr (takingOf (c .lines) capture room) (ranOf c file capture .lent) (lent c file)
 
 unfoldable pub capturedOf : Chain → List ℕ → List ℕ → ℕ → Captured
 capturedOf c file capture room = record { chain = capturedLent c file capture room .chain; taking = takingOf (c .lines) capture room }
@@ -62,4 +57,4 @@ capturedFile c file capture room = capturedLent c file capture room .file
 
 unfoldable pub capturedAnswers : Chain → List ℕ → List ℕ → List ℕ → List ℕ
 capturedAnswers c file capture answers =
-    answersAs (takingOf (c .lines) capture (length answers)) (answersIn (ranOf c file capture .answers) answers) answers
+    ranOr (takingOf (c .lines) capture (length answers)) (answersIn (ranOf c file capture .answers) answers) answers

@@ -12,7 +12,8 @@ ghost use Rattle.pack_lay.specs.Lay.{laidNumber, laidAnswer, laidBytes};
 ghost use Rattle.c_pack.specs.Fit.{lentFit};
 ghost use Rattle.c_pack.specs.FilePacks.{packsOf, packAtSlot};
 ghost use Rattle.c_word.specs.Words.{slotWord};
-ghost use Rattle.c_capture.specs.Capture.{lentCapture, captureFile, captureAnswers, captureCount};
+ghost use Rattle.c_capture.specs.Capture.{lentCapture, captureCount};
+ghost use Rattle.capture_run.specs.Captured.{capturedFile, capturedAnswers};
 ghost use Rattle.c_layout.specs.Marks.{markedChain};
 ghost use Rattle.chain_apply.specs.Apply.{applied};
 ghost use Rattle.chain_step.specs.Step.{stepOf, stepFile};
@@ -107,8 +108,8 @@ pub extern "C" fn esdi_capture<'a, 'b, 'c, 'd>(
 ) -> u64
     ensures { λ r. ⌜ (now (c .exit) ≡ lentCapture (now (c .entry)) (now (file .entry)) (now (capture .entry)) (length (now (answers .entry))) .chain)
         × ((r ≡ lentCapture (now (c .entry)) (now (file .entry)) (now (capture .entry)) (length (now (answers .entry))) .code)
-        × ((now (file .exit) ≡ captureFile (now (c .entry)) (now (file .entry)) (now (capture .entry)) (length (now (answers .entry))))
-        × (now (answers .exit) ≡ captureAnswers (now (c .entry)) (now (file .entry)) (now (capture .entry)) (now (answers .entry))))) ⌝ }
+        × ((now (file .exit) ≡ capturedFile (now (c .entry)) (now (file .entry)) (now (capture .entry)) (length (now (answers .entry))))
+        × (now (answers .exit) ≡ capturedAnswers (now (c .entry)) (now (file .entry)) (now (capture .entry)) (now (answers .entry))))) ⌝ }
 {
     let old = *c;
     let ran = c_capture::capture(old, file, capture, answers);

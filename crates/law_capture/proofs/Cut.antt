@@ -6,38 +6,35 @@ use Prim.Native.Nat.{ℕ, _*_, _/_}
 use native.Mathlib.Omega.{arith}
 use lib.ListN.{length, drop, length-drop}
 use Rattle.lines.specs.declared.Lines.{Lines}
-use Rattle.event.specs.declared.Answer.{Answer}
 use Rattle.event.specs.Numbers.{Numbers}
-use Rattle.chain_step.specs.Run.{Lent, lentAfter, stepBy, lentThrough, answersThrough}
+use Rattle.chain_step.specs.Run.{Lent, lentThrough, answersThrough}
 use Rattle.capture_samples.specs.declared.Sample.{Sample}
 use Rattle.capture_samples.specs.Samples.{sampleLength, sampleOf, samplesOf}
 use Rattle.capture_samples.proofs.Sampling.{first-sample, no-sample, samples-behind}
-use Rattle.capture_events.specs.Events.{changesOf, eventsTo, eventsBehind, eventsOf, captureEvents}
-use Rattle.capture_events.specs.Coming.{startOf}
+use Rattle.capture_events.specs.Events.{changesOf, eventsBehind, eventsOf, captureEvents}
+use Rattle.capture_events.specs.Coming.{startOf, lastOf}
 use Rattle.capture_events.proofs.Changing.{none-changes}
-use Rattle.capture_events.proofs.Coming.{from-start}
+use Rattle.capture_events.proofs.Coming.{from-start, behind-last}
 use Rattle.law_chain.specs.SoundOver.{SoundOver}
+use Rattle.law_chain.proofs.Through.{lent-then, answers-then}
 use Rattle.law_capture.specs.Cut.{SameCut}
-use Rattle.law_capture.proofs.Followed.{lent-then, lastLines, samples-follow}
+use Rattle.law_capture.proofs.Followed.{samples-follow}
 
-answers-then : (xs ys : List Numbers) (d : Lent) → answersThrough (xs ++ ys) d ≡ answersThrough xs d ++ answersThrough ys (lentThrough xs d)
-answers-then [] ys d = refl
-answers-then (x ∷ xs) ys d = ap (λ (l : List Answer). stepBy x d .answer ∷ l) (answers-then xs ys (lentAfter x d))
+last-is : (p : Sample) (xs : List Sample) (s : Sample) → lastOf p (xs ++ (s ∷ [])) ≡ s
+last-is p [] s = refl
+last-is p (x ∷ xs) s = last-is x xs s
 
 -- the events up to a sample, and those behind it
 behind-split : (p : Sample) (xs : List Sample) (s : Sample) (ys : List Sample) → eventsBehind p (xs ++ (s ∷ ys)) ≡ eventsBehind p (xs ++ (s ∷ [])) ++ eventsBehind s ys
-behind-split p [] s ys = ap (λ (l : List Numbers). l ++ eventsBehind s ys) (sym (append-nil (eventsTo p s)))
-behind-split p (x ∷ xs) s ys = ap (λ (l : List Numbers). eventsTo p x ++ l) (behind-split x xs s ys) ∙ sym (append-assoc (eventsTo p x) (eventsBehind x (xs ++ (s ∷ []))) (eventsBehind s ys))
+behind-split p xs s ys =
+    ap (eventsBehind p) (sym (append-assoc xs (s ∷ []) ys)) ∙ behind-last (xs ++ (s ∷ [])) ys p
+    ∙ ap (λ (t : Sample). eventsBehind p (xs ++ (s ∷ [])) ++ eventsBehind t ys) (last-is p xs s)
 
 events-split : (l : Lines) (xs : List Sample) (s : Sample) (ys : List Sample) → eventsOf l (xs ++ (s ∷ ys)) ≡ eventsOf l (xs ++ (s ∷ [])) ++ eventsBehind s ys
 events-split l [] s ys = ap (λ (t : List Numbers). t ++ eventsBehind s ys) (sym (append-nil (changesOf l (s .lines))))
 events-split l (x ∷ xs) s ys =
     ap (λ (t : List Numbers). changesOf l (x .lines) ++ t) (behind-split x xs s ys)
     ∙ sym (append-assoc (changesOf l (x .lines)) (eventsBehind x (xs ++ (s ∷ []))) (eventsBehind s ys))
-
-last-is : (p : Sample) (xs : List Sample) (s : Sample) → lastLines p (xs ++ (s ∷ [])) ≡ s .lines
-last-is p [] s = refl
-last-is p (x ∷ xs) s = last-is x xs s
 
 module _ (n : ℕ) (front sample back : List ℕ) (whole : length front ≡ n * sampleLength) (one : length sample ≡ sampleLength) where
   abbrev s : Sample
@@ -79,7 +76,8 @@ module _ (n : ℕ) (front sample back : List ℕ) (whole : length front ≡ n * 
         let bytes = front ++ sample in
         ap (λ (l : List Numbers). lentThrough l d .chain .lines) (from-start (d .chain .lines) bytes)
         ∙ samples-follow (length bytes / sampleLength) bytes (startOf (d .chain .lines) bytes) d sound refl
-        ∙ ap (lastLines (startOf (d .chain .lines) bytes)) first-samples ∙ last-is (startOf (d .chain .lines) bytes) (samplesOf front) s
+        ∙ ap (λ (l : List Sample). lastOf (startOf (d .chain .lines) bytes) l .lines) first-samples
+        ∙ ap (λ (t : Sample). t .lines) (last-is (startOf (d .chain .lines) bytes) (samplesOf front) s)
 
     -- so the second part begins with no change
     second : captureEvents (mid .chain .lines) (sample ++ back) ≡ later

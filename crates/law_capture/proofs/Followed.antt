@@ -20,14 +20,11 @@ use Rattle.chain_step.specs.Run.{Lent, lentAfter, lentThrough}
 use Rattle.capture_samples.specs.declared.Sample.{Sample}
 use Rattle.capture_samples.specs.Samples.{sampleLength, linesOf, sampleOf, samplesIn}
 use Rattle.capture_events.specs.Events.{eventOf, gapOf, longest, passing, wholeSpans, restSpan, passingOf, changeOf, changesOf, eventsTo, eventsBehind}
+use Rattle.capture_events.specs.Coming.{lastOf}
 use Rattle.law_chain.specs.SoundOver.{SoundOver}
+use Rattle.law_chain.proofs.Through.{lent-then}
 use Rattle.law_chain.proofs.Run.{step-sound, run-sound}
 use Rattle.law_chain.proofs.Stepping.{step-only}
-
--- events and then events
-pub lent-then : (xs ys : List Numbers) (d : Lent) → lentThrough (xs ++ ys) d ≡ lentThrough ys (lentThrough xs d)
-lent-then [] ys d = refl
-lent-then (x ∷ xs) ys d = lent-then xs ys (lentAfter x d)
 
 -- what a level may be
 pub record Levels (l : Lines) : Type 0 where
@@ -133,12 +130,8 @@ sample-follows earlier later v d s e =
     ∙ changes-follow (earlier .lines) (later .lines) v (lentThrough time d) (run-sound time d s) (time-leaves (gapOf (later .stamp) (earlier .stamp)) d s ∙ e)
 
 -- and behind those of several they are the last one's
-abbrev pub lastLines : Sample → List Sample → Lines
-lastLines s [] = s .lines
-lastLines s (later ∷ rest) = lastLines later rest
-
 pub samples-follow : (n : ℕ) (bytes : List ℕ) (s : Sample) (d : Lent) → SoundOver d → d .chain .lines ≡ s .lines
-    → linesThrough (eventsBehind s (samplesIn n bytes)) d ≡ lastLines s (samplesIn n bytes)
+    → linesThrough (eventsBehind s (samplesIn n bytes)) d ≡ lastOf s (samplesIn n bytes) .lines
 samples-follow zero bytes s d h e = e
 samples-follow (suc n) bytes s d h e =
     let later = sampleOf bytes in

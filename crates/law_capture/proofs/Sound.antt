@@ -11,11 +11,11 @@ use Rattle.capture_events.specs.Events.{captureEvents}
 use Rattle.capture_judge.specs.declared.Taking.{Taking}
 use Rattle.capture_judge.specs.declared.Taking.the-variants.{Runs, NotCapture, NoRoom}
 use Rattle.capture_judge.specs.Taking.{takingOf}
-use Rattle.capture_run.specs.Captured.{ranOf, lentAs, capturedLent, capturedOf, capturedFile, capturedAnswers}
+use Rattle.capture_run.specs.Captured.{ranOf, ranOr, capturedLent, capturedOf, capturedFile, capturedAnswers}
 use Rattle.law_chain.specs.SoundOver.{SoundOver}
 use Rattle.law_chain.proofs.Run.{run-sound}
 
-by : (t : Taking) (ran before : Lent) → SoundOver ran → SoundOver before → SoundOver (lentAs t ran before)
+by : (t : Taking) (ran before : Lent) → SoundOver ran → SoundOver before → SoundOver (ranOr t ran before)
 by (Runs n) ran before h k = h
 by (NotCapture place) ran before h k = k
 by (NoRoom n) ran before h k = k

@@ -5,6 +5,7 @@ pub mod Meeting
 pub mod Column
 pub mod Ranges
 pub mod Kept
+pub mod Through
 pub mod Run
 pub mod FirstAnswer
 pub mod Answered

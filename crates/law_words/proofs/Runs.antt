@@ -1,21 +1,18 @@
 -- An exchange is `run` over the events that the host sends, and so demand 3 speaks of a run.
 use Prim.Native.Nat.{_≤_}
 use mathlib.Core.Path.{_≡_, refl, sym, ap, _∙_}
-use mathlib.Core.List.{List, [], _∷_, _++_}
+use mathlib.Core.List.{List, [], _∷_}
 use lib.ListN.{length}
 use Rattle.law_exchange.specs.Host.{Signal, Sending, Exchanged, exchanges}
 use Rattle.law_exchange.specs.Waits.{InTime, Each}
 use Rattle.law_exchange.proofs.Like.{Alike, exchanges-like, any-waits}
 use Rattle.event.specs.Numbers.{Numbers}
 use Rattle.chain_step.specs.Run.{Lent, lentAfter, lentThrough, run}
+use Rattle.law_chain.proofs.Through.{lent-then}
 use Rattle.law_words.specs.AtOnce.{Resting, atOnce}
 use Rattle.law_words.specs.Stepped.{numbersOf, stepped}
 use Rattle.law_words.specs.Listed.{listed, eventsSent}
 use Rattle.law_words.proofs.Step.{step-demand-3}
-
-through-more : (events : List Numbers) (n : Numbers) (d : Lent) → lentThrough (events ++ (n ∷ [])) d ≡ lentAfter n (lentThrough events d)
-through-more [] n d = refl
-through-more (m ∷ rest) n d = through-more rest n (lentAfter m d)
 
 module _ (d : Lent) where
   abbrev Ran : Lent → List Numbers → Type 0
@@ -28,7 +25,7 @@ module _ (d : Lent) where
   alike = record {
     levels = λ x. tt;
     edges = λ x. tt;
-    after = λ e s sent f l. ap (λ (x : Lent). lentAfter (numbersOf e) x) l ∙ sym (through-more sent (numbersOf e) d);
+    after = λ e s sent f l. ap (λ (x : Lent). lentAfter (numbersOf e) x) l ∙ sym (lent-then sent (numbersOf e ∷ []) d);
     answer = λ e s sent f l. ap (stepped .answer e) l;
     acknowledged = λ s sent l. ap (stepped .acknowledged) l;
     responds = λ s sent l. ap (stepped .responds) l;

@@ -1,5 +1,5 @@
 -- `c_capture::capture` is the capture run, its outcome as a code.
-use Rattle.c_capture.specs.Capture.{lentCapture, captureFile, captureAnswers}
+use Rattle.c_capture.specs.Capture.{lentCapture}
 use borrow.Author.Needs.{needs}
 use Rattle.c_capture.proofs.capture.Statement.{statement}
 use Rattle.c_capture.proofs.capture.Tie as tie
@@ -23,7 +23,7 @@ same-length-2 : tie.Need-same-length-2
 same-length-2 c = search needs
 
 returns : tie.Need-returns
-unfolding lentCapture captureFile captureAnswers
+unfolding lentCapture
 returns c =
     let r = c .before .before .before .before .before .before .before .before .run .ensures in
     (simp (c .code .ensures, c .before .before .taking-number .ensures, c .before .taking-value .ensures, r .0), r .1)

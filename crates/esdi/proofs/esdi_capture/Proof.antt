@@ -49,7 +49,8 @@ use Rattle.esdi.proofs.code_of as code-of
 use Rattle.esdi.proofs.code_of.Symbol as code-of-def
 use Rattle.esdi.proofs.code_of.Symbol.{name as #code}
 use Rattle.esdi.proofs.code_of.Met as code-of-thm
-use Rattle.c_capture.specs.Capture.{lentCapture, captureFile, captureAnswers}
+use Rattle.capture_run.specs.Captured.{capturedFile, capturedAnswers}
+use Rattle.c_capture.specs.Capture.{lentCapture}
 use Rattle.c_capture.proofs.capture as by-value
 use Rattle.c_capture.proofs.capture.Symbol as by-value-def
 use Rattle.c_capture.proofs.capture.Symbol.{name as #plain}
@@ -116,7 +117,7 @@ module _ {M : Type 1} (𝓤 : URA M) (H : Heap 𝓤) (A : Atoms 𝓤) (W : Given
   Post = walkOf 𝓤 H A lent.ended stayed (lent.clauses 𝓤 H A at-mem run) .post (((κ, (κ₁, (κ₂, (κ₃, tt)))), (q, (q₁, (q₂, (q₃, tt)))), tt, x, at), tt)
 
   abbrev Said : Coded → List ℕ → List ℕ → Type 0
-  Said t zs₁ zs₃ = (t ≡ lentCapture h (f₁ .now) (f₂ .now) (length (f₃ .now))) × ((zs₁ ≡ captureFile h (f₁ .now) (f₂ .now) (length (f₃ .now))) × (zs₃ ≡ captureAnswers h (f₁ .now) (f₂ .now) (f₃ .now)))
+  Said t zs₁ zs₃ = (t ≡ lentCapture h (f₁ .now) (f₂ .now) (length (f₃ .now))) × ((zs₁ ≡ capturedFile h (f₁ .now) (f₂ .now) (length (f₃ .now))) × (zs₃ ≡ capturedAnswers h (f₁ .now) (f₂ .now) (f₃ .now)))
 
   abbrev Ens : Coded → SProp 𝓤
   Ens t = ensured 𝓤 H A by-value.ended (by-value.clauses 𝓤 H A at-mem run) (κ₁, (κ₂, (κ₃, tt))) (h, (f₁, (f₂, (f₃, tt)))) tt t
