@@ -1,4 +1,6 @@
 // The bus runner.
+#![tactic(auto)]
+
 fn main() {
     bus_runner::start();
 }

@@ -1,4 +1,6 @@
 // The runner over a capture as a function of bytes: samples in, an answer line for each event out. No descriptor is read or written here.
+#![tactic(auto)]
+
 ghost use Rattle.std.specs.Prelude.{◌≡◌, ◌+◌, ◌≤◌};
 ghost use Rattle.bus_text.specs.AnswerLine.{longest_line};
 ghost use Rattle.bus_output.specs.Output.{block_length};
@@ -12,7 +14,7 @@ use capture_samples::{LENGTH, Sample, sample_of};
 use chain_record::Chain;
 
 // What one event leaves to the next.
-#[derive(Drop)]
+#[derive(Clone, Copy)]
 pub struct Session {
     pub chain: Chain,
     // what is reached of the capture
@@ -22,14 +24,14 @@ pub struct Session {
 }
 
 // A session, and how much of the output waits.
-#[derive(Drop)]
+#[derive(Clone, Copy)]
 struct Waiting {
     session: Session,
     at: usize,
 }
 
 // What a part of the capture leaves, and how much of the part was used.
-#[derive(Drop)]
+#[derive(Clone, Copy)]
 pub struct Turn {
     pub session: Session,
     pub used: usize,
@@ -50,6 +52,7 @@ pub fn opened(chain: Chain, part: &[u8]) -> Session
 }
 
 // An event without a second operand, its answer put behind the output that waits.
+#[tactic(auto, unfolding(crate::specs::Stream::answered_of))]
 fn answered(
     out: &mut [u8; BLOCK],
     at: usize,

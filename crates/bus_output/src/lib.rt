@@ -1,4 +1,6 @@
 // The output that waits: answer lines stored one behind the other in a block, until they are written.
+#![tactic(auto)]
+
 ghost use Rattle.std.specs.Prelude.{◌+◌, ◌≤◌, length};
 ghost use Rattle.bus_text.specs.AnswerLine.{answer_line, longest_line};
 ghost use Rattle.bus_output.specs.Output.{room_for, Stored};

@@ -1,4 +1,6 @@
 // What the runner answers to an event line: the event carried out, and the numbers of the output line.
+#![tactic(auto)]
+
 ghost use Rattle.std.specs.Prelude.{◌≡◌};
 ghost use Rattle.chain_step.specs.Step.{step_file};
 ghost use Rattle.bus_reply.specs.Reply.{event_reply, reply_of, reply_file};
@@ -8,7 +10,7 @@ use chain_decide::shown;
 use chain_record::Chain;
 
 // The chain that is left, and the numbers of the output line behind its count.
-#[derive(Drop)]
+#[derive(Clone, Copy)]
 pub struct Reply {
     pub chain: Chain,
     pub answer: u8,

@@ -14,20 +14,20 @@ use libc::STDERR_FILENO;
 const PART: usize = 65_532;
 
 // How much of a block was read, and whether it could be.
-#[derive(Drop)]
+#[derive(Clone, Copy)]
 struct Got {
     n: usize,
     good: bool,
 }
 
 // What the first reading found.
-#[derive(Drop)]
+#[derive(Clone, Copy)]
 pub struct Found {
     pub good: bool,
     pub length: u64,
 }
 
-#[derive(Drop)]
+#[derive(Clone, Copy)]
 struct Run {
     session: Session,
     // false once a write failed, or the capture changed

@@ -1,4 +1,6 @@
 // The bus runner: fits a chain from a pack file and answers event lines, or a capture's events. What is wrong goes to standard error.
+#![tactic(auto)]
+
 mod capture;
 mod stream;
 

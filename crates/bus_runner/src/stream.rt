@@ -9,7 +9,7 @@ use bus_stream::Session;
 use chain_record::Chain;
 use libc::STDIN_FILENO;
 
-#[derive(Drop)]
+#[derive(Clone, Copy)]
 struct Run {
     session: Session,
     // false once a write failed

@@ -1,4 +1,6 @@
 // The smallest drive: the runner fits it where no pack file is named, and programs try things on it.
+#![tactic(auto)]
+
 ghost use Rattle.std.specs.Prelude.{◌≡◌};
 ghost use Rattle.bus_smallest.specs.Smallest.{smallest_of};
 

@@ -1,5 +1,7 @@
 // The runner as a function of bytes: event lines in, answer lines out, wherever the input is cut. No descriptor is read or written here.
 // Bytes are scanned apart from the chain, which moves once a line.
+#![tactic(auto)]
+
 ghost use Rattle.std.specs.Prelude.{◌≡◌, ◌+◌, ◌≤◌};
 ghost use Rattle.bus_text.specs.AnswerLine.{longest_line};
 ghost use Rattle.bus_output.specs.Output.{block_length};
@@ -11,7 +13,7 @@ use bus_text::Scan;
 use chain_record::Chain;
 
 // What one byte leaves to the next.
-#[derive(Drop)]
+#[derive(Clone, Copy)]
 pub struct Session {
     pub chain: Chain,
     // the line that is being read
@@ -21,14 +23,14 @@ pub struct Session {
 }
 
 // A session, and how much of the output waits.
-#[derive(Drop)]
+#[derive(Clone, Copy)]
 pub struct Waiting {
     pub session: Session,
     pub at: usize,
 }
 
 // What a part of the input leaves, and how much of the part was used.
-#[derive(Drop)]
+#[derive(Clone, Copy)]
 pub struct Turn {
     pub session: Session,
     pub used: usize,
@@ -47,6 +49,7 @@ pub fn opened(chain: Chain) -> Session
 }
 
 // Runs the event of the line that was read, and puts its answer behind the output that waits.
+#[tactic(auto, unfolding(crate::specs::Stream::answered_of))]
 fn answered(out: &mut [u8; BLOCK], at: usize, file: &mut [u8], s: Session) -> Waiting
     requires { at + longest_line ≤ block_length }
     ensures { Answers s file.old out.old at result file.new out.new }

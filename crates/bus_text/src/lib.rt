@@ -1,4 +1,6 @@
 // The runner's text: event lines read byte by byte, and answer lines stored as bytes.
+#![tactic(auto)]
+
 pub mod put;
 pub mod read;
 
@@ -7,14 +9,14 @@ ghost use Rattle.bus_text.specs.Whole.{unreadable_number};
 ghost use Rattle.bus_text.specs.Scan.{fresh_scan};
 
 // What an event line says.
-#[derive(Drop)]
+#[derive(Clone, Copy)]
 pub enum Line {
     Numbers(u16, u16, u16),
     Unreadable,
 }
 
 // An event line as far as it was read, in fixed memory whatever its length.
-#[derive(Drop)]
+#[derive(Clone, Copy)]
 pub struct Scan {
     // how many spaces were met (u32: with a scan of eight bytes reading was a third slower)
     spaces: u32,
@@ -50,7 +52,7 @@ impl Scan {
 }
 
 // Where a line stopped in a part of the input, at its newline or at the part's end, and its scan there.
-#[derive(Drop)]
+#[derive(Clone, Copy)]
 pub struct Stop {
     pub at: usize,
     pub scan: Scan,

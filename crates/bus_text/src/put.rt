@@ -32,6 +32,7 @@ fn put_number(out: &mut [u8], at: usize, n: u64) -> usize
 }
 
 // A number and the byte that ends it.
+#[tactic(auto, unfolding(crate::specs::AnswerLine::field))]
 fn put_field(out: &mut [u8], at: usize, n: u64, end: u8) -> usize
     requires { at + length (field n end) ≤ length out.old }
     ensures { Put out.old at (field n end) out.new result }

@@ -6,6 +6,7 @@ ghost use Rattle.bus_text.specs.TextLines.{line_stop};
 use crate::{Line, Scan, Stop};
 
 // A space ends a word that has a byte, and begins the second or the third.
+#[tactic(auto, unfolding(crate::specs::Scan::parted_of))]
 fn parted(s: Scan) -> Scan
     ensures { result ≡ parted_of s }
 {
@@ -25,6 +26,7 @@ fn parted(s: Scan) -> Scan
 }
 
 // Any other byte is one more digit.
+#[tactic(auto, unfolding(crate::specs::Scan::grown_of))]
 fn grown(s: Scan, byte: u8) -> Scan
     ensures { result ≡ grown_of s byte }
 {
@@ -48,6 +50,7 @@ fn grown(s: Scan, byte: u8) -> Scan
 }
 
 // The line with one byte more.
+#[tactic(auto, unfolding(crate::specs::Scan::fed_of))]
 fn fed(s: Scan, byte: u8) -> Scan
     ensures { result ≡ fed_of s byte }
 {
@@ -58,6 +61,7 @@ fn fed(s: Scan, byte: u8) -> Scan
 }
 
 // What the line says at its end.
+#[tactic(auto, unfolding(crate::specs::Scan::finish_of))]
 pub fn finish(s: Scan) -> Line
     ensures { result ≡ finish_of s }
 {

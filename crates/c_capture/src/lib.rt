@@ -1,4 +1,6 @@
 // A capture in plain numbers: run on a chain, and its answers counted.
+#![tactic(auto)]
+
 ghost use Rattle.std.specs.Prelude.{◌≡◌, ◌≤◌, length};
 ghost use Rattle.capture_events.specs.Count.{up_to};
 ghost use Rattle.capture_run.specs.Captured.{captured_file, captured_answers};
@@ -21,6 +23,7 @@ fn capped(n: u64) -> u64
 }
 
 // An answer's number in the low byte, a count or a place above it.
+#[tactic(auto, unfolding(crate::specs::Capture::count_code))]
 fn code(number: u8, n: u64) -> u64
     ensures { result ≡ count_code number n }
 {
@@ -28,6 +31,7 @@ fn code(number: u8, n: u64) -> u64
 }
 
 // A capture on a chain and its file, an answer of two bytes for each event.
+#[tactic(auto, unfolding(crate::specs::Capture::lent_capture))]
 pub fn capture(c: Chain, file: &mut [u8], capture: &[u8], answers: &mut [u8]) -> Coded
     ensures { (result ≡ lent_capture c file.old capture.now (length answers.old))
         × ((file.new ≡ captured_file c file.old capture.now (length answers.old))
@@ -45,6 +49,7 @@ pub fn capture(c: Chain, file: &mut [u8], capture: &[u8], answers: &mut [u8]) ->
 }
 
 // How many answers a capture will have, or where it is none.
+#[tactic(auto, unfolding(crate::specs::Capture::capture_count))]
 pub fn count(c: Chain, capture: &[u8]) -> u64
     ensures { result ≡ capture_count c capture.now }
 {

@@ -1,4 +1,6 @@
 // A record whose every field holds a mark of its own, by which a program in C sees that its mirror of the record is right.
+#![tactic(auto)]
+
 ghost use Rattle.std.specs.Prelude.{◌≡◌};
 ghost use Rattle.c_layout.specs.Marks.{marked_profile, marked_pack, marked_body, marked_state, marked_lines, marked_packs, marked_states, marked_chain};
 
@@ -133,6 +135,7 @@ fn all_states() -> [State; SLOTS]
     ]
 }
 
+#[tactic(auto, unfolding(crate::specs::Marks::marked_chain))]
 pub fn marked() -> Chain
     ensures { result ≡ marked_chain }
 {

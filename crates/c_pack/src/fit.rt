@@ -26,6 +26,7 @@ pub(crate) fn read_code(answer: Reading, n: u8) -> u64
     }
 }
 
+#[tactic(auto, unfolding(crate::specs::Fit::lent_fit))]
 pub fn fit(c: Chain, file: &[u8]) -> Coded
     ensures { result ≡ lent_fit c file.now }
 {

@@ -22,6 +22,7 @@ fn one(p: Pack) -> u8
     0
 }
 
+#[tactic(auto, unfolding(crate::specs::FilePacks::count_of))]
 fn count(packs: [Pack; SLOTS]) -> u8
     ensures { result ≡ count_of packs }
 {
@@ -31,6 +32,7 @@ fn count(packs: [Pack; SLOTS]) -> u8
 }
 
 // How many packs a file has, in the second byte; or why it is refused, and where in the high half.
+#[tactic(auto, unfolding(crate::specs::FilePacks::packs_of))]
 pub fn packs(file: &[u8]) -> u64
     ensures { result ≡ packs_of file.now }
 {
@@ -71,6 +73,7 @@ fn taken_or(answer: Reading, found: CodedPack, refused: CodedPack) -> CodedPack
 }
 
 // The pack in a slot, 1 to 7, of a file, in place of the old one, which a refusal leaves.
+#[tactic(auto, unfolding(crate::specs::FilePacks::pack_at_slot))]
 pub fn pack_at(old: Pack, file: &[u8], slot: u32) -> CodedPack
     ensures { result ≡ pack_at_slot old file.now slot }
 {

@@ -1,4 +1,6 @@
 // The plain word rules on a slot of the record.
+#![tactic(auto)]
+
 ghost use Rattle.std.specs.Prelude.{◌≡◌};
 ghost use Rattle.c_word.specs.Words.{refused_word, word_code, state_in, sent_of, word_at, slot_word};
 
@@ -49,6 +51,7 @@ fn state_in(c: Chain, slot: u8, s: State) -> Chain
     chain_apply::apply(c, d)
 }
 
+#[tactic(auto, unfolding(crate::specs::Words::sent_of))]
 fn sent(c: Chain, p: Profile, s: State, slot: u8, n: u32) -> Coded
     ensures { result ≡ sent_of c p s slot n }
 {
@@ -63,6 +66,7 @@ fn sent(c: Chain, p: Profile, s: State, slot: u8, n: u32) -> Coded
 }
 
 // The word n to a slot, 1 to 7, of a record that may be malformed.
+#[tactic(auto, unfolding(crate::specs::Words::word_at))]
 fn word_at(c: Chain, slot: u8, n: u32) -> Coded
     ensures { result ≡ word_at c slot n }
 {
@@ -80,6 +84,7 @@ fn word_at(c: Chain, slot: u8, n: u32) -> Coded
     sent(c, profile, s, slot, n)
 }
 
+#[tactic(auto, unfolding(crate::specs::Words::slot_word))]
 pub fn word(c: Chain, slot: u32, n: u32) -> Coded
     ensures { result ≡ slot_word c slot n }
 {

@@ -1,4 +1,6 @@
 // What a capture comes to: the events from one sample to the next, one at a time, and how many they are.
+#![tactic(auto)]
+
 pub mod count;
 
 ghost use Rattle.std.specs.Prelude.{◌≡◌};
@@ -13,7 +15,7 @@ use lines::Lines;
 const SPAN: u32 = 65_535;
 
 // What comes next on the way to a sample.
-#[derive(Drop)]
+#[derive(Clone, Copy)]
 pub enum Ahead {
     // an event's kind and its first operand (the second is 0), and what is reached by it
     Event(u32, u32, Sample),

@@ -1,11 +1,13 @@
 // What becomes of a capture, judged before anything is done: 40 ahead of everything, then 37.
+#![tactic(auto)]
+
 ghost use Rattle.std.specs.Prelude.{◌≡◌};
 ghost use Rattle.capture_judge.specs.Taking.{taking_of, taking_number, taking_value};
 
 use lines::Lines;
 
 // What becomes of a capture.
-#[derive(Drop)]
+#[derive(Clone, Copy)]
 pub enum Taking {
     // it is run: so many events
     Runs(u64),

@@ -1,4 +1,6 @@
 // A capture run on a chain and its file, an answer of two bytes for each event: the same as its events fed singly.
+#![tactic(auto)]
+
 ghost use Rattle.std.specs.Prelude.{◌≡◌, ◌+◌, ◌*◌, ◌≤◌, length};
 ghost use Rattle.capture_events.specs.Events.{capture_events};
 ghost use Rattle.capture_run.specs.Captured.{answer_put, Fed, RunThrough, captured_of, captured_file, captured_answers};
@@ -10,7 +12,7 @@ use chain_record::Chain;
 use event::Answer;
 use event::numbers::{number, value};
 
-#[derive(Drop)]
+#[derive(Clone, Copy)]
 pub struct Captured {
     pub chain: Chain,
     pub taking: Taking,

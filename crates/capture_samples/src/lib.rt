@@ -1,4 +1,6 @@
 // A logic analyser's capture: samples of six bytes, each a stamp and the levels of the lines.
+#![tactic(auto)]
+
 ghost use Rattle.std.specs.Prelude.{◌≡◌};
 ghost use Rattle.capture_samples.specs.Samples.{lines_of, levels_b, sample_of, good_bytes};
 
@@ -10,13 +12,14 @@ use lines::Lines;
 pub const LENGTH: usize = 6;
 
 // When, in microseconds that run over, and the levels then.
-#[derive(Drop)]
+#[derive(Clone, Copy)]
 pub struct Sample {
     pub stamp: u32,
     pub lines: Lines,
 }
 
 // The levels of the lines, by their bits.
+#[tactic(auto, unfolding(crate::specs::Samples::lines_of))]
 fn lines_of(levels: u16) -> Lines
     ensures { result ≡ lines_of levels }
 {

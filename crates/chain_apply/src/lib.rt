@@ -1,4 +1,6 @@
 // A decision put into the record.
+#![tactic(auto)]
+
 ghost use Rattle.std.specs.Prelude.{◌≡◌};
 ghost use Rattle.counts.specs.Slots.{map_with};
 ghost use Rattle.chain_apply.specs.Apply.{put_of, pass_slot, with_states, applied};
@@ -11,6 +13,7 @@ use drive_rules::time;
 use pack_read::Pack;
 
 // The record with the state of a slot put in place of what it was.
+#[tactic(auto, unfolding(crate::specs::Apply::put_of))]
 fn put(c: Chain, slot: u8, s: State) -> Chain
     ensures { result ≡ with_states c (put_of c.states slot s) }
 {
@@ -26,6 +29,7 @@ fn put(c: Chain, slot: u8, s: State) -> Chain
 }
 
 // Time passes on a fitted drive.
+#[tactic(auto, unfolding(crate::specs::Apply::pass_slot))]
 fn pass_slot(p: Pack, s: State, us: Micros) -> State
     ensures { result ≡ pass_slot us p s }
 {
@@ -51,6 +55,7 @@ fn passed(c: Chain, us: Micros) -> Chain
 }
 
 // The record after a decision. A state is put by its place, since the record is large.
+#[tactic(auto, unfolding(crate::specs::Apply::applied, crate::specs::Apply::changed_of))]
 pub fn apply(c: Chain, d: Decision) -> Chain
     ensures { result ≡ applied c d }
 {

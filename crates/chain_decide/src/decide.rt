@@ -7,6 +7,7 @@ use chain_others::{cell, condition, passing};
 use chain_record::{Chain, Seen, slots};
 use event::Event;
 
+#[tactic(auto, unfolding(crate::specs::Decide::select_event))]
 fn select(c: Chain, d: Seen, slot: u8) -> Decision
     ensures { result ≡ select_event c d slot }
 {
@@ -23,6 +24,7 @@ fn select(c: Chain, d: Seen, slot: u8) -> Decision
     chain_select::moved(d, l, m, p, s)
 }
 
+#[tactic(auto, unfolding(crate::specs::Decide::condition_event))]
 fn condition(c: Chain, slot: u8, which: u8) -> Decision
     ensures { result ≡ condition_event c slot which }
 {
@@ -34,6 +36,7 @@ fn condition(c: Chain, slot: u8, which: u8) -> Decision
     condition::condition_at(l, p, s, slot, which)
 }
 
+#[tactic(auto, unfolding(crate::specs::Decide::decide_of))]
 pub fn decide(c: Chain, e: Event) -> Decision
     ensures { result ≡ decide_of c e }
 {

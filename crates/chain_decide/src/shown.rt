@@ -6,6 +6,7 @@ use chain_record::{Chain, slots};
 use drive_cable::shows;
 
 // Its lines as a sum; 0 if no fitted drive is selected.
+#[tactic(auto, unfolding(crate::specs::Shown::line_sum))]
 pub fn line_sum(c: Chain) -> u8
     ensures { result ≡ line_sum c }
 {

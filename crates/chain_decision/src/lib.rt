@@ -1,4 +1,6 @@
 // A decision, what an event does before anything is done: the lines, the states that change, the word carried out, and what is answered or touched.
+#![tactic(auto)]
+
 ghost use Rattle.std.specs.Prelude.{◌≡◌};
 ghost use Rattle.chain_decision.specs.Decision.{outcome_answer, say_of, heard_of, ruled_of, ruled_done};
 
@@ -8,7 +10,7 @@ use event::Answer;
 use lines::Lines;
 
 // Which states change: none, one, the one left and the one entered by select, or all by time.
-#[derive(Drop)]
+#[derive(Clone, Copy)]
 pub enum Change {
     Nothing,
     One(u8, State),
@@ -17,7 +19,7 @@ pub enum Change {
 }
 
 // A cell of the chain: a byte of the medium of a slot's pack.
-#[derive(Drop)]
+#[derive(Clone, Copy)]
 pub struct Spot {
     pub slot: u8,
     pub cylinder: Cylinder,
@@ -26,7 +28,7 @@ pub struct Spot {
 }
 
 // What is answered at once, or which cell is read or written.
-#[derive(Drop)]
+#[derive(Clone, Copy)]
 pub enum Deed {
     Say(Answer),
     Read(Spot),
@@ -34,14 +36,14 @@ pub enum Deed {
 }
 
 // The word that the selected drive carries out, if it does.
-#[derive(Drop)]
+#[derive(Clone, Copy)]
 pub enum Sent {
     Nothing,
     Word(u32),
 }
 
 // What an event does, before anything is done.
-#[derive(Drop)]
+#[derive(Clone, Copy)]
 pub struct Decision {
     pub lines: Lines,
     pub change: Change,
@@ -72,6 +74,7 @@ pub fn say(l: Lines, a: Answer) -> Decision
 }
 
 // The lines are taken and no drive changes.
+#[tactic(auto, unfolding(crate::specs::Decision::heard_of))]
 pub fn heard(l: Lines, on: bool) -> Decision
     ensures { result ≡ heard_of l on }
 {

@@ -1,4 +1,6 @@
 // The fresh chain of a pack file.
+#![tactic(auto)]
+
 ghost use Rattle.std.specs.Prelude.{◌≡◌, length};
 ghost use Rattle.counts.specs.Slots.{map_with};
 ghost use Rattle.chain_fit.specs.Fresh.{low_lines, fresh_slot, blank_states, end_of, fresh_fit};
@@ -11,7 +13,7 @@ use pack_read::read::Reading;
 use pack_read::{Pack, read};
 
 // A chain, or why its file is refused and where; the chain is then the empty one.
-#[derive(Drop)]
+#[derive(Clone, Copy)]
 pub struct Fitted {
     pub answer: Reading,
     pub chain: Chain,
@@ -30,6 +32,7 @@ fn low() -> Lines
     }
 }
 
+#[tactic(auto, unfolding(crate::specs::Fresh::fresh_slot))]
 fn fresh_slot(p: Pack, s: State) -> State
     ensures { result ≡ fresh_slot p s }
 {
@@ -61,6 +64,7 @@ fn fresh_states(packs: [Pack; SLOTS]) -> [State; SLOTS]
 }
 
 // The length of a file that is taken; a refused one counts as empty.
+#[tactic(auto, unfolding(crate::specs::Fresh::end_of))]
 fn end_of(answer: Reading, n: usize) -> u32
     ensures { result ≡ end_of answer n }
 {
@@ -76,6 +80,7 @@ fn end_of(answer: Reading, n: usize) -> u32
 }
 
 // The chain fitted from a pack file.
+#[tactic(auto, unfolding(crate::specs::Fresh::fresh_fit))]
 pub fn fit(file: &[u8]) -> Fitted
     ensures { result ≡ fresh_fit file.now }
 {

@@ -1,4 +1,6 @@
 // What three numbers come to on any record and any length of file: a decision, which for a refusal is that nothing changes.
+#![tactic(auto)]
+
 ghost use Rattle.std.specs.Prelude.{◌≡◌};
 ghost use Rattle.chain_judge.specs.Judge.{judged_of};
 
@@ -8,6 +10,7 @@ use chain_record::Chain;
 use event::{Answer, Decoded};
 
 // Refusals 20 to 25 in their order, else what the event decides.
+#[tactic(auto, unfolding(crate::specs::Judge::judged_of, crate::specs::Judge::allowed_of))]
 pub fn judge(c: Chain, long: usize, kind: u32, a: u32, b: u32) -> Decision
     ensures { result ≡ judged_of c long kind a b }
 {

@@ -1,4 +1,6 @@
 // Kinds 1 to 5 at the selected drive: the head lines, the gates, the data line and transfer request.
+#![tactic(auto)]
+
 ghost use Rattle.std.specs.Prelude.{◌≡◌};
 ghost use Rattle.chain_lines.specs.Signals.{signal_of, heads_event, write_rule, write_gate_event, read_rule, read_gate_event, data_event, carried_word, request_event};
 
@@ -12,6 +14,7 @@ use handshake::Fallen;
 use lines::Lines;
 
 // A line is set, from l to m; where that moves it, the selected drive's rule gives r, with the word carried out.
+#[tactic(auto, unfolding(crate::specs::Signals::signal_of))]
 fn signal(d: Seen, l: Lines, m: Lines, same: bool, word: Sent, r: Ruled) -> Decision
     ensures { result ≡ signal_of d l m same word r }
 {

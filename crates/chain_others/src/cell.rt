@@ -22,6 +22,7 @@ fn spot(d: Seen, l: Lines, position: Position) -> Spot
     }
 }
 
+#[tactic(auto, unfolding(crate::specs::Cell::cell_event))]
 pub fn data_cell(d: Seen, l: Lines, position: Position, byte: u8) -> Decision
     ensures { result ≡ cell_event d l position byte }
 {

@@ -9,6 +9,7 @@ use lines::Lines;
 use pack_read::Pack;
 
 // A fixed drive's medium does not change.
+#[tactic(auto, unfolding(crate::specs::Condition::fixed_change))]
 fn fixed_change(p: Pack, which: u8) -> bool
     ensures { result ≡ fixed_change p which }
 {
@@ -16,6 +17,7 @@ fn fixed_change(p: Pack, which: u8) -> bool
 }
 
 // A condition at a slot that has this pack and this state.
+#[tactic(auto, unfolding(crate::specs::Condition::condition_at))]
 pub fn condition_at(l: Lines, p: Pack, s: State, slot: u8, which: u8) -> Decision
     ensures { result ≡ condition_at l p s slot which }
 {

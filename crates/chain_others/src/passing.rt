@@ -9,6 +9,7 @@ use event::Answer;
 use lines::Lines;
 
 // Time passes on all; only the selected drive can have a transfer to drop.
+#[tactic(auto, unfolding(crate::specs::Passing::pass_event))]
 pub fn pass(d: Seen, l: Lines, us: Micros) -> Decision
     ensures { result ≡ pass_event d l us }
 {

@@ -1,4 +1,6 @@
 // The chain record: up to seven drives on one control cable, and the selected one.
+#![tactic(auto)]
+
 pub mod slots;
 
 use counts::{Place, SLOTS};
@@ -9,7 +11,7 @@ use pack_read::Pack;
 
 // What the packs say, what the drives are doing, the lines, and the file's length. An empty slot is not looked at.
 #[repr(C)]
-#[derive(Drop)]
+#[derive(Clone, Copy)]
 pub struct Chain {
     pub packs: [Pack; SLOTS],
     pub states: [State; SLOTS],
@@ -18,7 +20,7 @@ pub struct Chain {
 }
 
 // The selected drive, if a fitted one is.
-#[derive(Drop)]
+#[derive(Clone, Copy)]
 pub struct Seen {
     pub selected: bool,
     pub profile: Profile,

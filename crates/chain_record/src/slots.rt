@@ -9,6 +9,7 @@ use pack_profile::Profile;
 use pack_read::Pack;
 
 // The pack in a slot, 1 to 7; 0 and what is past 7 has none.
+#[tactic(auto, unfolding(crate::specs::Record::slot_pack))]
 pub fn pack_in(packs: [Pack; SLOTS], slot: u8) -> Pack
     ensures { result ≡ slot_pack packs slot }
 {
@@ -21,6 +22,7 @@ pub fn pack_in(packs: [Pack; SLOTS], slot: u8) -> Pack
     packs[(slot - 1) as usize]
 }
 
+#[tactic(auto, unfolding(crate::specs::Record::slot_state))]
 pub fn state_in(states: [State; SLOTS], slot: u8) -> State
     ensures { result ≡ slot_state states slot }
 {
@@ -45,6 +47,7 @@ fn nobody() -> Seen
 }
 
 // The selected slot's parts alone are taken out of the record, which is large.
+#[tactic(auto, unfolding(crate::specs::Record::look_of, crate::specs::Record::slot_pack, crate::specs::Record::slot_state))]
 pub fn look(c: Chain) -> Seen
     ensures { result ≡ look_of c }
 {

@@ -1,4 +1,6 @@
 // Kind 0: the drive select code changes.
+#![tactic(auto)]
+
 ghost use Rattle.std.specs.Prelude.{◌≡◌};
 ghost use Rattle.chain_select.specs.Select.{either_answer, left_alone, both_of, moved_of};
 
@@ -51,6 +53,7 @@ fn both(slot: u8, left: Ruled, entered: Ruled, m: Lines) -> Decision
 }
 
 // The select code has changed, from l to m: the drive seen is left, the pack p's, with the state s, is entered.
+#[tactic(auto, unfolding(crate::specs::Select::moved_of))]
 pub fn moved(d: Seen, l: Lines, m: Lines, p: Pack, s: State) -> Decision
     ensures { result ≡ moved_of d l m p s }
 {

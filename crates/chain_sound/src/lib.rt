@@ -1,4 +1,6 @@
 // When the chain record is one that the rules could leave.
+#![tactic(auto)]
+
 ghost use Rattle.std.specs.Prelude.{◌≡◌};
 ghost use Rattle.chain_sound.specs.SoundChain.{pack_b, placed_of, drive_b, chain_sound_b};
 
@@ -18,12 +20,13 @@ fn pack_ok(p: Pack, slot: u8, at: Place) -> bool
 }
 
 // Whether a slot's pack may stand, and where the packs up to it end.
-#[derive(Drop)]
+#[derive(Clone, Copy)]
 pub struct Placed {
     pub ok: bool,
     pub end: Place,
 }
 
+#[tactic(auto, unfolding(crate::specs::SoundChain::placed_of))]
 fn place(p: Pack, slot: u8, at: Place) -> Placed
     ensures { result ≡ placed_of p slot at }
 {
@@ -44,6 +47,7 @@ fn place(p: Pack, slot: u8, at: Place) -> Placed
     }
 }
 
+#[tactic(auto, unfolding(crate::specs::SoundChain::drive_b))]
 fn drive_ok(p: Pack, s: State, l: Lines) -> bool
     ensures { result ≡ drive_b l p s }
 {
@@ -56,6 +60,7 @@ fn drive_ok(p: Pack, s: State, l: Lines) -> bool
 
 // The record isn't malformed: every pack stands where reading the file would put it, the last ends at the file's end, and
 // every drive is one that the rules could leave. A slot's parts alone are taken out of the record, which is large.
+#[tactic(auto, unfolding(crate::specs::SoundChain::chain_sound_b))]
 pub fn is_sound(c: Chain) -> bool
     ensures { result ≡ chain_sound_b c }
 {

@@ -1,4 +1,6 @@
 // An event in, an answer out, over the lent file. Nothing is expected of the caller: every record, file and number is taken or refused.
+#![tactic(auto)]
+
 ghost use Rattle.std.specs.Prelude.{◌≡◌, length};
 ghost use Rattle.chain_decision.specs.Deeds.{spot_place, Fits};
 ghost use Rattle.chain_step.specs.Step.{Obeyed, perform_of, step_of, step_file};
@@ -11,19 +13,20 @@ use event::Answer;
 use pack_read::Pack;
 
 // What is decided and done on the file; the record is still to change.
-#[derive(Drop)]
+#[derive(Clone, Copy)]
 pub struct Performed {
     pub decision: Decision,
     pub answer: Answer,
 }
 
-#[derive(Drop)]
+#[derive(Clone, Copy)]
 pub struct Stepped {
     pub chain: Chain,
     pub answer: Answer,
 }
 
 // Where in the file a cell stands.
+#[tactic(auto, unfolding(chain_decision::specs::Deeds::spot_place))]
 fn place_of(packs: [Pack; SLOTS], s: Spot) -> usize
     ensures { result ≡ spot_place packs s }
 {
@@ -55,6 +58,7 @@ fn obey(packs: [Pack; SLOTS], file: &mut [u8], deed: Deed) -> Answer
 }
 
 // An event, given by its three numbers, judged and done on the file.
+#[tactic(auto, unfolding(crate::specs::Step::perform_of, crate::specs::Step::step_file))]
 pub fn perform(c: Chain, file: &mut [u8], kind: u32, a: u32, b: u32) -> Performed
     ensures { (result ≡ perform_of kind a b c file.old) × (file.new ≡ step_file kind a b c file.old) }
 {
@@ -66,6 +70,7 @@ pub fn perform(c: Chain, file: &mut [u8], kind: u32, a: u32, b: u32) -> Performe
 }
 
 // What an event, given by its three numbers, does to the chain and to its file.
+#[tactic(auto, unfolding(crate::specs::Step::perform_of, crate::specs::Step::step_of))]
 pub fn step(c: Chain, file: &mut [u8], kind: u32, a: u32, b: u32) -> Stepped
     ensures { (result ≡ step_of kind a b c file.old) × (file.new ≡ step_file kind a b c file.old) }
 {

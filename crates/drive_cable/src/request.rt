@@ -14,6 +14,7 @@ fn gated(l: Lines) -> bool
     (l.writegate == 1) | (l.readgate == 1)
 }
 
+#[tactic(auto, unfolding(crate::specs::Request::request_rises))]
 pub fn rises(s: State, l: Lines) -> Ruled
     ensures { result ≡ request_rises l s }
 {
@@ -32,6 +33,7 @@ fn after_word(told: Told) -> Transfer
     }
 }
 
+#[tactic(auto, unfolding(crate::specs::Request::request_falls))]
 pub fn falls(p: Profile, s: State) -> Ruled
     ensures { result ≡ request_falls p s }
 {

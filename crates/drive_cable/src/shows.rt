@@ -14,6 +14,7 @@ fn weight(on: bool, n: u8) -> u8
 }
 
 // 1 selected, 2 ready, 4 acknowledge, 8 data, 16 attention, 32 complete.
+#[tactic(auto, unfolding(crate::specs::Sum::sum_of))]
 pub fn sum(s: State) -> u8
     ensures { result ≡ sum_of s }
 {

@@ -7,6 +7,7 @@ use lines::Lines;
 use pack_profile::Profile;
 
 // A writing drive's gate is high and no rule of the write gate would stop it.
+#[tactic(auto, unfolding(crate::specs::SoundDrive::writing_b))]
 fn writing_ok(p: Profile, s: State, l: Lines) -> bool
     ensures { result ≡ writing_b p l s }
 {
@@ -20,12 +21,14 @@ fn writing_ok(p: Profile, s: State, l: Lines) -> bool
             & (p.protected == 0))
 }
 
+#[tactic(auto, unfolding(crate::specs::SoundDrive::reading_b))]
 fn reading_ok(p: Profile, s: State, l: Lines) -> bool
     ensures { result ≡ reading_b p l s }
 {
     (s.body.reading == 0) | ((l.readgate == 1) & (l.writegate == 0) & drive_gates::usable(p, s))
 }
 
+#[tactic(auto, unfolding(crate::specs::SoundDrive::selected_b))]
 fn selected_ok(p: Profile, s: State, l: Lines) -> bool
     ensures { result ≡ selected_b p l s }
 {
@@ -37,6 +40,7 @@ fn selected_ok(p: Profile, s: State, l: Lines) -> bool
 }
 
 // Unselected: no transfer, and neither reading nor writing.
+#[tactic(auto, unfolding(crate::specs::SoundDrive::unselected_b))]
 fn unselected_ok(s: State) -> bool
     ensures { result ≡ unselected_b s }
 {
@@ -45,6 +49,7 @@ fn unselected_ok(s: State) -> bool
 }
 
 // The record of a drive with a valid profile, selected or not.
+#[tactic(auto, unfolding(crate::specs::SoundDrive::drive_sound_b))]
 pub fn sound(p: Profile, s: State, l: Lines, selected: bool) -> bool
     ensures { result ≡ drive_sound_b p l selected s }
 {

@@ -19,6 +19,7 @@ fn cell(track: usize, bytes: u16, position: u16) -> usize
 }
 
 // The place in the medium of the cell at a position of the track under a head.
+#[tactic(auto, unfolding(crate::specs::CellPlace::place_of))]
 pub fn place(p: Profile, cylinder: Cylinder, head: Head, position: Position) -> usize
     ensures { InMedium p cylinder head position result }
 {

@@ -1,4 +1,6 @@
 // The write gate and the read gate, rising and falling at the selected drive, and the cells that they let through.
+#![tactic(auto)]
+
 pub mod cell;
 
 ghost use Rattle.std.specs.Prelude.{◌≡◌};
@@ -8,6 +10,7 @@ use drive_record::{Body, Latched, Outcome, Ruled, State, faults, status};
 use pack_profile::Profile;
 
 // Ready, command complete, position known and head present.
+#[tactic(auto, unfolding(crate::specs::Gates::usable_b))]
 pub fn usable(p: Profile, s: State) -> bool
     ensures { result ≡ usable_b p s }
 {
@@ -30,6 +33,7 @@ fn faulted(s: State, b: Body, bit: u16) -> Ruled
 }
 
 // Write gate rising; readgate is the read gate's level.
+#[tactic(auto, unfolding(crate::specs::Gates::write_rises))]
 pub fn write_rises(p: Profile, s: State, readgate: u16) -> Ruled
     ensures { result ≡ write_rises p readgate s }
 {
@@ -71,6 +75,7 @@ pub fn write_falls(s: State) -> State
 }
 
 // Read gate rising; writegate is the write gate's level.
+#[tactic(auto, unfolding(crate::specs::Gates::read_rises))]
 pub fn read_rises(p: Profile, s: State, writegate: u16) -> Ruled
     ensures { result ≡ read_rises p writegate s }
 {

@@ -6,6 +6,7 @@ use crate::{Body, Latched, Outcome, Ruled, State};
 use handshake::{Held, Transfer};
 
 // A bit of the status word, by its value. Latching any bit ends writing.
+#[tactic(auto, unfolding(crate::specs::Faults::latch_of))]
 pub fn latch(b: Body, bit: u16) -> Body
     ensures { result ≡ latch_of bit b }
 {
@@ -17,6 +18,7 @@ pub fn latch(b: Body, bit: u16) -> Body
 }
 
 // 1 begins a write fault, 2 seek error, 3 medium changed, 4 ends the write fault.
+#[tactic(auto, unfolding(crate::specs::Faults::condition_of))]
 pub fn condition(b: Body, which: u8) -> Body
     ensures { result ≡ condition_of which b }
 {

@@ -1,4 +1,6 @@
 // One drive: what its pack says stands in its profile, what it is doing in its state. Numbers only, so that C can lend it.
+#![tactic(auto)]
+
 pub mod faults;
 pub mod limits;
 pub mod status;
@@ -12,12 +14,12 @@ use pack_profile::{Profile, Times};
 
 // The latched bits, at their places in the status word.
 #[repr(C)]
-#[derive(Drop)]
+#[derive(Clone, Copy)]
 pub struct Latched(pub u16);
 
 // Where the heads are. offset: 0 none, 1 is +1, 2 is -1. lost: 1 where the position is lost.
 #[repr(C)]
-#[derive(Drop)]
+#[derive(Clone, Copy)]
 pub struct Arm {
     pub cylinder: Cylinder,
     pub offset: u8,
@@ -26,7 +28,7 @@ pub struct Arm {
 
 // What is left of the busy time and of the head switch.
 #[repr(C)]
-#[derive(Drop)]
+#[derive(Clone, Copy)]
 pub struct Timers {
     pub busy: Micros,
     pub head: Micros,
@@ -35,7 +37,7 @@ pub struct Timers {
 // All of a drive but its transfer. motor: 0 stopped, 1 starting, 2 up. sector: the size now in force.
 // standing: 1 while a write fault stands; wider than it needs, so that no byte is padding.
 #[repr(C)]
-#[derive(Drop)]
+#[derive(Clone, Copy)]
 pub struct Body {
     pub timers: Timers,
     pub arm: Arm,
@@ -49,21 +51,21 @@ pub struct Body {
 }
 
 #[repr(C)]
-#[derive(Drop)]
+#[derive(Clone, Copy)]
 pub struct State {
     pub body: Body,
     pub transfer: Transfer,
 }
 
 // What a rule did: it was done, inhibited with nothing latched, or a fault.
-#[derive(Drop)]
+#[derive(Clone, Copy)]
 pub enum Outcome {
     Done,
     Inhibited,
     Fault,
 }
 
-#[derive(Drop)]
+#[derive(Clone, Copy)]
 pub struct Ruled {
     pub state: State,
     pub outcome: Outcome,

@@ -38,6 +38,7 @@ fn standing_ok(standing: u32, l: Latched) -> bool
     (standing <= 1) & ((standing != 1) | (l.0 / 2 % 2 == 1))
 }
 
+#[tactic(auto, unfolding(crate::specs::Limits::limits_b))]
 pub fn kept(p: Profile, b: Body) -> bool
     ensures { result ≡ limits_b p b }
 {

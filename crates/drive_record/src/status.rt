@@ -25,6 +25,7 @@ pub fn calm(b: Body) -> bool
 }
 
 // Command complete.
+#[tactic(auto, unfolding(crate::specs::Status::complete_b))]
 pub fn complete(s: State) -> bool
     ensures { result ≡ complete_b s }
 {
@@ -34,6 +35,7 @@ pub fn complete(s: State) -> bool
 }
 
 // Live bit 13 or 12.
+#[tactic(auto, unfolding(crate::specs::Status::protected_bit))]
 fn protected_bit(p: Profile) -> u16
     ensures { result ≡ protected_bit p }
 {
@@ -47,6 +49,7 @@ fn protected_bit(p: Profile) -> u16
 }
 
 // Live bit 9.
+#[tactic(auto, unfolding(crate::specs::Status::stopped_bit))]
 fn stopped_bit(b: Body) -> u16
     ensures { result ≡ stopped_bit b }
 {
@@ -56,6 +59,7 @@ fn stopped_bit(b: Body) -> u16
     Body::MOTOR_STOPPED
 }
 
+#[tactic(auto, unfolding(crate::specs::Status::status_of))]
 pub fn status(p: Profile, b: Body) -> u16
     ensures { result ≡ status_of p b }
 {

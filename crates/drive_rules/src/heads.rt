@@ -7,6 +7,7 @@ use drive_record::{Body, Latched, Outcome, Ruled, State, faults};
 use pack_profile::{Profile, Times};
 
 // The drive takes the new head. The head timer starts where the switch is not at once. Reading ends.
+#[tactic(auto, unfolding(crate::specs::Heads::switched_of))]
 fn switched(p: Profile, b: Body, h: Head) -> Body
     ensures { result ≡ switched_of p h b }
 {
@@ -23,6 +24,7 @@ fn switched(p: Profile, b: Body, h: Head) -> Body
     e
 }
 
+#[tactic(auto, unfolding(crate::specs::Heads::head_change))]
 fn head_change(p: Profile, s: State, h: Head) -> Ruled
     ensures { result ≡ head_change p h s }
 {
@@ -44,6 +46,7 @@ fn head_change(p: Profile, s: State, h: Head) -> Ruled
 }
 
 // The selected drive meets the head lines, or takes them when it is entered: a head that alters is a head change.
+#[tactic(auto, unfolding(crate::specs::Heads::met_of))]
 pub fn meets(p: Profile, s: State, h: Head) -> Ruled
     ensures { result ≡ met_of p h s }
 {

@@ -5,6 +5,7 @@ ghost use Rattle.drive_rules.specs.DriveLeft.{left_of};
 use drive_record::{Outcome, Ruled, State, faults};
 
 // Bit 6 with a transfer open or while writing, both dropped; reading ends.
+#[tactic(auto, unfolding(crate::specs::DriveLeft::left_of))]
 pub fn left(s: State) -> Ruled
     ensures { result ≡ left_of s }
 {

@@ -15,6 +15,7 @@ fn less(a: Micros, us: Micros) -> Micros
 }
 
 // A starting motor is up when its busy timer reaches 0.
+#[tactic(auto, unfolding(crate::specs::Time::motor_after))]
 fn motor_after(motor: u8, busy: Micros, us: Micros) -> u8
     ensures { result ≡ motor_after motor busy us }
 {
@@ -31,6 +32,7 @@ fn motor_after(motor: u8, busy: Micros, us: Micros) -> u8
 }
 
 // Time lowers both timers.
+#[tactic(auto, unfolding(crate::specs::Time::pass_body))]
 fn pass_body(b: Body, us: Micros) -> Body
     ensures { result ≡ pass_body us b }
 {
@@ -47,6 +49,7 @@ fn pass_body(b: Body, us: Micros) -> Body
 }
 
 // Time passes on a drive, and on its transfer, which may be dropped for it.
+#[tactic(auto, unfolding(crate::specs::Time::pass_drive))]
 pub fn pass(s: State, us: Micros) -> Ruled
     ensures { result ≡ pass_drive us s }
 {

@@ -1,4 +1,6 @@
 // What C calls: the record and the file lent, the answer as a number.
+#![tactic(auto)]
+
 ghost use Rattle.std.specs.Prelude.{◌≡◌, length};
 ghost use Rattle.pack_lay.specs.Lay.{laid_number, laid_answer, laid_bytes};
 ghost use Rattle.c_pack.specs.Fit.{lent_fit};
@@ -35,6 +37,7 @@ fn answer_code(p: Performed) -> u32
 }
 
 // What the selected drive shows, in the second byte; or that the record is malformed.
+#[tactic(auto, unfolding(crate::specs::Call::lines_code))]
 fn lines_code(c: Chain) -> u32
     ensures { result ≡ lines_code c }
 {
@@ -69,6 +72,7 @@ fn pack_code(p: CodedPack) -> u64
 }
 
 // An event on the lent record and file. A decision is small: the record is copied in and stored back once.
+#[tactic(auto, unfolding(chain_step::specs::Step::perform_of, chain_step::specs::Step::step_of))]
 #[unsafe(no_mangle)]
 pub extern "C" fn esdi_event<'a, 'b>(
     c: &'a mut Chain,

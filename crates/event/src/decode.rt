@@ -24,6 +24,7 @@ fn stray(kind: u32, b: u32) -> bool
     (kind <= 6) & (b != 0)
 }
 
+#[tactic(auto, unfolding(crate::specs::Decode::ranged))]
 fn select(a: u32) -> Decoded
     ensures { result ≡ ranged (is_select_code a) (Event.Select a) }
 {
@@ -33,6 +34,7 @@ fn select(a: u32) -> Decoded
     Decoded::Is(Event::Select(a as u8))
 }
 
+#[tactic(auto, unfolding(crate::specs::Decode::ranged))]
 fn heads(a: u32) -> Decoded
     ensures { result ≡ ranged (is_head_lines a) (Event.Heads (record { 0 = a })) }
 {
@@ -43,6 +45,7 @@ fn heads(a: u32) -> Decoded
 }
 
 // One of the four lines that have a level.
+#[tactic(auto, unfolding(crate::specs::Decode::ranged, crate::specs::Decode::level_line))]
 fn line(kind: u32, a: u32) -> Decoded
     ensures { result ≡ ranged (is_level a) (level_line kind a) }
 {
@@ -62,6 +65,7 @@ fn line(kind: u32, a: u32) -> Decoded
     Decoded::Is(Event::Request(level))
 }
 
+#[tactic(auto, unfolding(crate::specs::Decode::ranged))]
 fn pass(a: u32) -> Decoded
     ensures { result ≡ ranged (is_span a) (Event.Pass (record { 0 = a })) }
 {
@@ -71,6 +75,7 @@ fn pass(a: u32) -> Decoded
     Decoded::Is(Event::Pass(Micros(a)))
 }
 
+#[tactic(auto, unfolding(crate::specs::Decode::ranged))]
 fn cell(a: u32, b: u32) -> Decoded
     ensures { result ≡ ranged (is_position a && is_byte b) (Event.Cell (record { 0 = a }) b) }
 {
@@ -83,6 +88,7 @@ fn cell(a: u32, b: u32) -> Decoded
     Decoded::Is(Event::Cell(Position(a as u16), b as u8))
 }
 
+#[tactic(auto, unfolding(crate::specs::Decode::ranged))]
 fn condition(a: u32, b: u32) -> Decoded
     ensures { result ≡ ranged (slot_b a && is_condition b) (Event.Condition a b) }
 {
@@ -102,6 +108,7 @@ fn condition(a: u32, b: u32) -> Decoded
 }
 
 // The event of a kind up to 8, where its operands are in range.
+#[tactic(auto, unfolding(crate::specs::Decode::kind_row))]
 fn row(kind: u32, a: u32, b: u32) -> Decoded
     ensures { result ≡ kind_row kind a b }
 {
@@ -124,6 +131,7 @@ fn row(kind: u32, a: u32, b: u32) -> Decoded
 }
 
 // An event from its three numbers.
+#[tactic(auto, unfolding(crate::specs::Decode::decode_of))]
 pub fn decode(kind: u32, a: u32, b: u32) -> Decoded
     ensures { result ≡ decode_of kind a b }
 {

@@ -1,11 +1,13 @@
 // Events and the answers to them.
+#![tactic(auto)]
+
 pub mod decode;
 pub mod numbers;
 
 use counts::{Head, Micros, Position};
 
 // What happens on the cable, or in a slot.
-#[derive(Drop)]
+#[derive(Clone, Copy)]
 pub enum Event {
     // 0 selects none
     Select(u8),
@@ -20,14 +22,14 @@ pub enum Event {
     Condition(u8, u8),
 }
 
-#[derive(Drop)]
+#[derive(Clone, Copy)]
 pub enum Decoded {
     Is(Event),
     Unknown,
     Range,
 }
 
-#[derive(Drop)]
+#[derive(Clone, Copy)]
 pub enum Answer {
     Taken,
     Read(u8),

@@ -1,4 +1,6 @@
 // The serial handshake: what a request edge and time do to a unit's transfer. It knows nothing else of the unit.
+#![tactic(auto)]
+
 ghost use Rattle.std.specs.Prelude.{◌≡◌};
 ghost use Rattle.handshake.specs.Transfer.{no_transfer, responding_with, open_b, bit_out, status_line};
 ghost use Rattle.handshake.specs.Edges.{taken_bit, next_bit, taken_of, put_out_of, rise_of, lowered_of, fall_of, late_b, wait_of};
@@ -8,7 +10,7 @@ use counts::Micros;
 
 // count: the bits taken, or put out. way: 0 none, 1 taking bits, 2 responding. acknowledge: the line's level.
 #[repr(C)]
-#[derive(Drop)]
+#[derive(Clone, Copy)]
 pub struct Transfer {
     pub waiting: Micros,
     pub bits: u32,
@@ -19,14 +21,14 @@ pub struct Transfer {
 }
 
 // What a rise or a wait does: the transfer goes on, or is dropped with bit 6.
-#[derive(Drop)]
+#[derive(Clone, Copy)]
 pub enum Held {
     Keep(Transfer),
     Drop,
 }
 
 // What a fall does: the transfer goes on, or its word is whole, to be carried out.
-#[derive(Drop)]
+#[derive(Clone, Copy)]
 pub enum Fallen {
     Keep(Transfer),
     Carry(u32),
@@ -124,6 +126,7 @@ fn put_out(t: Transfer) -> Transfer
 }
 
 // Request rises. gated: either gate is on. calm: the unit's timers are 0. level: the command data line's.
+#[tactic(auto, unfolding(crate::specs::Edges::rise_of))]
 pub fn rise(t: Transfer, gated: bool, calm: bool, level: u8) -> Held
     ensures { result ≡ rise_of gated calm level t }
 {
@@ -153,6 +156,7 @@ fn lowered(t: Transfer) -> Transfer
 }
 
 // Request falls.
+#[tactic(auto, unfolding(crate::specs::Edges::fall_of))]
 pub fn fall(t: Transfer) -> Fallen
     ensures { result ≡ fall_of t }
 {
@@ -169,6 +173,7 @@ pub fn fall(t: Transfer) -> Fallen
 }
 
 // Whether a transfer is open that these microseconds drop.
+#[tactic(auto, unfolding(crate::specs::Edges::late_b))]
 pub fn late(t: Transfer, us: Micros) -> bool
     ensures { result ≡ late_b us t }
 {
@@ -176,6 +181,7 @@ pub fn late(t: Transfer, us: Micros) -> bool
 }
 
 // Microseconds pass.
+#[tactic(auto, unfolding(crate::specs::Edges::wait_of))]
 pub fn wait(t: Transfer, us: Micros) -> Held
     ensures { result ≡ wait_of us t }
 {
@@ -192,6 +198,7 @@ pub fn wait(t: Transfer, us: Micros) -> Held
 }
 
 // The bit that is out when count bits of the response have been put out, the highest first.
+#[tactic(auto, unfolding(crate::specs::Transfer::bit_out))]
 fn bit_out(response: u32, count: u16) -> u8
     ensures { result ≡ bit_out response count }
 {
@@ -202,6 +209,7 @@ fn bit_out(response: u32, count: u16) -> u8
 }
 
 // The configuration/status line.
+#[tactic(auto, unfolding(crate::specs::Transfer::status_line))]
 pub fn status_line(t: Transfer) -> u8
     ensures { result ≡ status_line t }
 {
@@ -227,6 +235,7 @@ pub fn is_idle(t: Transfer) -> bool
     (t.way == 0) & idle(t)
 }
 
+#[tactic(auto, unfolding(crate::specs::SoundTransfer::taking_b))]
 fn taking(t: Transfer, request: u8) -> bool
     ensures { result ≡ taking_b request t }
 {
@@ -253,6 +262,7 @@ fn responding(t: Transfer, request: u8) -> bool
 }
 
 // Whether the handshake could have left this transfer at that request level.
+#[tactic(auto, unfolding(crate::specs::SoundTransfer::left_b))]
 pub fn could_leave(t: Transfer, request: u8) -> bool
     ensures { result ≡ left_b request t }
 {

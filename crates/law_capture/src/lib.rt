@@ -1,1 +1,2 @@
 // Theorems about captures: specs/ says them, proofs/ proves them.
+#![tactic(auto)]

@@ -1,4 +1,6 @@
 // The lines of the control cable that the host drives.
+#![tactic(auto)]
+
 ghost use Rattle.std.specs.Prelude.{◌≡◌};
 ghost use Rattle.lines.specs.Lines.{lines_b};
 
@@ -6,7 +8,7 @@ use counts::{Head, LAST_SLOT};
 
 // The levels of the control cable's lines that the host drives. The gates have two bytes so that no byte is padding.
 #[repr(C)]
-#[derive(Drop)]
+#[derive(Clone, Copy)]
 pub struct Lines {
     pub select: u8,
     pub heads: Head,

@@ -1,4 +1,6 @@
 // Laying a pack at the start of a lent part.
+#![tactic(auto)]
+
 pub mod stages;
 
 ghost use Rattle.std.specs.Prelude.{◌≡◌, length};
@@ -9,7 +11,7 @@ use pack_profile::Profile;
 use pack_read::Refusal;
 use stages::Stage;
 
-#[derive(Drop)]
+#[derive(Clone, Copy)]
 pub enum Laid {
     Done,
     Refused(Refusal),

@@ -9,7 +9,7 @@ use pack_profile::Profile;
 use pack_read::{Pack, Refusal};
 
 // In their order: the form of a pack that ended here zeroed, the medium zeroed, the trailer's fields, its distance.
-#[derive(Drop)]
+#[derive(Clone, Copy)]
 pub enum Stage {
     Spoil,
     Medium,
@@ -77,6 +77,7 @@ fn write(p: Profile, s: Stage, buffer: &mut [u8])
 }
 
 // One stage of laying a pack at the start of a lent part; refused as laying is.
+#[tactic(auto, unfolding(crate::specs::Order::staged_bytes))]
 pub fn lay_stage(p: Profile, s: Stage, buffer: &mut [u8]) -> Laid
     ensures { (result ≡ laid_answer p (length buffer.old)) × (buffer.new ≡ staged_bytes s p buffer.old) }
 {

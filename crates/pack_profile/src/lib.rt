@@ -1,4 +1,6 @@
 // A drive's profile: what its pack says of it, whatever it is doing.
+#![tactic(auto)]
+
 pub mod general;
 pub mod valid;
 
@@ -8,7 +10,7 @@ ghost use Rattle.pack_profile.specs.Profile.{blank_profile, Medium};
 use counts::{Cylinder, Heads, Micros, PerCylinder, Position, SectorSize};
 
 #[repr(C)]
-#[derive(Drop)]
+#[derive(Clone, Copy)]
 pub struct Shape {
     pub cylinders: Cylinder,
     pub heads: Heads,
@@ -17,7 +19,7 @@ pub struct Shape {
 }
 
 #[repr(C)]
-#[derive(Drop)]
+#[derive(Clone, Copy)]
 pub struct Times {
     pub settle: Micros,
     pub step: PerCylinder,
@@ -30,7 +32,7 @@ pub struct Times {
 
 // protected, 0 or 1, has two bytes so that no byte is padding.
 #[repr(C)]
-#[derive(Drop)]
+#[derive(Clone, Copy)]
 pub struct Profile {
     pub slot: u8,
     pub vendor: u8,

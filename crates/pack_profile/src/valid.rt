@@ -23,6 +23,7 @@ pub fn sector_ok(soft: bool, size: u16) -> bool
 }
 
 // Whether every field is one that may stand.
+#[tactic(auto, unfolding(crate::specs::Valid::valid_b))]
 pub fn valid(p: Profile) -> bool
     ensures { result ≡ valid_b p }
 {

@@ -1,4 +1,6 @@
 // The pack file: zero to seven packs, each a medium and then its trailer.
+#![tactic(auto)]
+
 pub mod read;
 
 ghost use Rattle.std.specs.Prelude.{◌≡◌};
@@ -9,7 +11,7 @@ use counts::Place;
 use pack_profile::Profile;
 
 // Why a file or a laying is refused.
-#[derive(Drop)]
+#[derive(Clone, Copy)]
 pub enum Refusal {
     Short,
     Distance,
@@ -39,7 +41,7 @@ pub fn number(why: Refusal) -> u8
 
 // A slot's pack: where in the file its medium starts, and its fields. fitted, 0 or 1, has four bytes so that none is padding.
 #[repr(C)]
-#[derive(Drop)]
+#[derive(Clone, Copy)]
 pub struct Pack {
     pub fitted: u32,
     pub place: Place,

@@ -8,7 +8,7 @@ use crate::{Pack, Refusal};
 use counts::{Place, SLOTS};
 use pack_profile::Profile;
 
-#[derive(Drop)]
+#[derive(Clone, Copy)]
 pub enum Reading {
     Whole,
     Refused(Refusal, Place),
@@ -35,14 +35,14 @@ pub fn place(a: Reading) -> u32
 }
 
 // What reading found: each pack at its slot, or nothing where the file is refused.
-#[derive(Drop)]
+#[derive(Clone, Copy)]
 pub struct Packs {
     pub answer: Reading,
     pub slots: [Pack; SLOTS],
 }
 
 // The last pack of a file: where it starts, with its fields; or why it is refused.
-#[derive(Drop)]
+#[derive(Clone, Copy)]
 pub enum Last {
     Found(Place, Profile),
     Refused(Refusal),
@@ -50,6 +50,7 @@ pub enum Last {
 
 // The pack that ends at n: d is its distance, good whether its fields may stand, medium what they say of its medium,
 // limit the slot of the pack behind it.
+#[tactic(auto, unfolding(crate::specs::Read::verdict_of))]
 fn verdict(n: u32, limit: u8, d: u32, form: u8, good: bool, medium: usize, p: Profile) -> Last
     requires { medium < 281_474_976_710_656 }
     ensures { result ≡ verdict_of n limit d form good medium p }
@@ -87,6 +88,7 @@ fn check(t: &[u8], n: u32, limit: u8) -> Last
     verdict(n, limit, d, form, good, pack_profile::medium(shape), p)
 }
 
+#[tactic(auto, unfolding(crate::specs::Read::last_pack))]
 fn last_pack(file: &[u8], limit: u8) -> Last
     requires { length file.now ≤ 2_147_483_647 }
     ensures { result ≡ last_pack file.now limit }
@@ -152,6 +154,7 @@ fn read_back(file: &[u8], limit: u8, found: [Pack; SLOTS]) -> Packs
 }
 
 // The packs of a file, each at its slot, or a refusal with its place.
+#[tactic(auto, unfolding(crate::specs::Read::read_all))]
 pub fn read(file: &[u8]) -> Packs
     ensures { result ≡ read_all file.now }
 {

@@ -1,4 +1,6 @@
 // A pack's trailer: the profile of its drive, as 44 bytes and back.
+#![tactic(auto)]
+
 ghost use Rattle.std.specs.Prelude.{◌≡◌};
 ghost use Rattle.counts.specs.Bytes.{one as byte_of, two as twoOf, four as fourOf};
 ghost use Rattle.pack_trailer.specs.Fields.{ShapeIs, TimesIs, profile_of, zeros_b};
@@ -67,6 +69,7 @@ fn times_of(t: &[u8]) -> Times
 }
 
 // The fields of a trailer.
+#[tactic(auto, unfolding(crate::specs::Fields::profile_of))]
 pub fn profile_of(t: &[u8]) -> Profile
     ensures { result ≡ profile_of t.now }
 {

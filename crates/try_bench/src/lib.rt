@@ -1,4 +1,6 @@
 // Chains to try things on: drives of several kinds, laid into a pack file and fitted; events and words played on their cable.
+#![tactic(auto)]
+
 pub mod drives;
 pub mod plain;
 pub mod play;
@@ -35,21 +37,21 @@ pub const STATUS: u8 = 8;
 pub const ATTENTION: u8 = 16;
 
 // A chain, and how much of the room is lent to it as its file.
-#[derive(Drop)]
+#[derive(Clone, Copy)]
 pub struct Bench {
     pub chain: Chain,
     pub lent: usize,
 }
 
 // What an event came to: its answer, the value, and then the lines as a sum.
-#[derive(Drop)]
+#[derive(Clone, Copy)]
 pub struct Told {
     pub answer: u8,
     pub value: u8,
     pub sum: u8,
 }
 
-#[derive(Drop)]
+#[derive(Clone, Copy)]
 pub struct Met {
     pub bench: Bench,
     pub told: Told,

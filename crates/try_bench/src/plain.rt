@@ -3,7 +3,7 @@ use chain_record::{Chain, slots};
 use drive_record::State;
 use word_rules::Told;
 
-#[derive(Drop)]
+#[derive(Clone, Copy)]
 pub struct Answered {
     pub chain: Chain,
     // seventeen bits, 0 where there is no response

@@ -6,7 +6,7 @@ use chain_record::Chain;
 use handshake::Transfer;
 
 // told: what the last event came to. good: whether every event before it within the word came as it must.
-#[derive(Drop)]
+#[derive(Clone, Copy)]
 pub struct Play {
     pub bench: Bench,
     pub told: Told,

@@ -5,7 +5,7 @@ const KINDS: usize = 9;
 
 const ANSWERS: usize = 26;
 
-#[derive(Drop)]
+#[derive(Clone, Copy)]
 pub struct Tally {
     pub kinds: [u32; KINDS],
     pub answers: [u32; ANSWERS],

@@ -1,5 +1,7 @@
 // Sends words both ways to drives of several kinds, and counts what came and every difference: document 01's "the plain word rules
 // are these", held against the handshake bit by bit. One line of totals.
+#![tactic(auto)]
+
 mod random;
 mod same;
 mod ways;
@@ -14,7 +16,7 @@ use ways::Sent;
 
 const WORDS: u32 = 3000;
 
-#[derive(Drop)]
+#[derive(Clone, Copy)]
 struct Totals {
     refused: u32,
     responses: u32,
@@ -28,14 +30,14 @@ struct Totals {
 }
 
 // An event by its three numbers.
-#[derive(Drop)]
+#[derive(Clone, Copy)]
 struct Three {
     kind: u32,
     a: u32,
     b: u32,
 }
 
-#[derive(Drop)]
+#[derive(Clone, Copy)]
 struct Run {
     bench: Bench,
     seed: u64,

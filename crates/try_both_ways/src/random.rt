@@ -15,7 +15,7 @@ pub fn below(seed: u64, n: u64) -> u16 {
 }
 
 // A wait between two request edges, in two parts. None is longer than 10,000 microseconds.
-#[derive(Drop)]
+#[derive(Clone, Copy)]
 pub struct Wait {
     pub first: Micros,
     pub second: Micros,

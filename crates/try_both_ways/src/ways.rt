@@ -8,7 +8,7 @@ use try_bench::plain::Answered;
 use try_bench::{ACKNOWLEDGE, Bench, DATA, Met, PASS, REQUEST, ROOM, STATUS, plain};
 
 // What came of a word: the bits that the drive put out, 0 where there is no response, and what the cable answered at its end.
-#[derive(Drop)]
+#[derive(Clone, Copy)]
 pub struct Sent {
     pub bench: Bench,
     pub bits: u32,

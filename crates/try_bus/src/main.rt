@@ -1,4 +1,6 @@
 // The bus runner again, over a pack file and a longer input.
+#![tactic(auto)]
+
 fn main() {
     bus_runner::start();
 }

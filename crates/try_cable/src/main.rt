@@ -1,5 +1,7 @@
 // Plays the cable sessions of the script on standard input, whose every line says what must come, worked out from document 01.
 // A session's title is printed with ok behind it, or with the lines that came otherwise; the totals follow.
+#![tactic(auto)]
+
 mod session;
 
 use libc::STDIN_FILENO;

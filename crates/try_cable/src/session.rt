@@ -20,7 +20,7 @@ use try_script::words::Number;
 use try_script::{fields, words};
 
 // here: the differences of this session.
-#[derive(Drop)]
+#[derive(Clone, Copy)]
 pub struct Run {
     pub play: Play,
     pub here: u32,

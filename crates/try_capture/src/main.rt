@@ -1,5 +1,7 @@
 // Small captures fed to `bus_capture`, on the smallest drive in slots 1 and 3: the answer lines are held to crates/try_capture/stdout,
 // which is worked out from the papers. 51 is a fresh drive, selected: 1 selected, 2 ready, 16 attention (power on), 32 complete.
+#![tactic(auto)]
+
 ghost use Rattle.std.specs.Prelude.{◌≤◌, length};
 
 use bus_capture::Session;

@@ -1,6 +1,8 @@
 // Lays and reads pack files as the script on standard input says, and prints each answer's number and place. The script
 // provokes every refusal that files of this size can meet: each alone, and each next to the one before it in the order.
 // A line of three numbers (what, place, value) is a step; any other line is a heading and is printed as it stands.
+#![tactic(auto)]
+
 ghost use Rattle.std.specs.Prelude.{◌≤◌, length};
 
 use bus_text::{Line, Scan};

@@ -1,6 +1,8 @@
 // Lays a pack on a card stage by stage and pulls the card behind every single write, over what it may have held before.
 // A line says what reading says from that write of the stage on: the answer's number and place. Behind those of a card that
 // is taken stand the slots of its packs, and whether its bytes are the finished pack's.
+#![tactic(auto)]
+
 ghost use Rattle.std.specs.Prelude.{◌+◌, ◌≤◌};
 
 use counts::{Cylinder, Heads, Position, SectorSize};
@@ -19,7 +21,7 @@ const MEDIUM: usize = CARD - pack_trailer::LENGTH;
 const DRAWING: u8 = 170;
 
 // What reading says of a card; finished, 0 or 1, where its bytes are the finished pack's.
-#[derive(Drop)]
+#[derive(Clone, Copy)]
 struct Seen {
     number: u8,
     place: u32,

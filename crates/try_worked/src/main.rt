@@ -1,4 +1,6 @@
 // Words sent to drives, and what came: one line each, held to crates/try_worked/stdout, which is worked out from the papers.
+#![tactic(auto)]
+
 mod cases;
 mod drives;
 mod lines;

@@ -1,4 +1,6 @@
 // What a command does to a drive, by its act.
+#![tactic(auto)]
+
 ghost use Rattle.std.specs.Prelude.{◌≡◌};
 ghost use Rattle.word_acts.specs.Acts.{distance_of, seek_time, motor_for, busy_for, seek_of, homed_of, recalibrate_of, left_latched, cleared_of, stop_of, start_of, offset_of, sector_of, acted_of};
 
@@ -7,7 +9,7 @@ use drive_record::{Arm, Body, Latched};
 use pack_profile::Times;
 
 // An offset is given by the arm's code.
-#[derive(Drop)]
+#[derive(Clone, Copy)]
 pub enum Act {
     Seek(Cylinder),
     Recalibrate,
@@ -37,6 +39,7 @@ fn distance(from: Cylinder, to: Cylinder) -> Distance
 }
 
 // A distance becomes a time here alone, and no distance no time; a timer holds no more than 32 bits.
+#[tactic(auto, unfolding(crate::specs::Acts::seek_time))]
 fn seek_time(t: Times, distance: Distance) -> Micros
     ensures { result ≡ seek_time t distance }
 {
@@ -64,6 +67,7 @@ fn motor_for(motor: u8, t: Micros) -> u8
 }
 
 // The one place where busy is set.
+#[tactic(auto, unfolding(crate::specs::Acts::busy_for))]
 fn busy_for(b: Body, t: Micros) -> Body
     ensures { result ≡ busy_for t b }
 {
@@ -105,6 +109,7 @@ fn recalibrate(t: Times, b: Body) -> Body
 }
 
 // Of the latched bits, what control 0 leaves: bit 1 while a write fault stands.
+#[tactic(auto, unfolding(crate::specs::Acts::left_latched))]
 fn left_latched(b: Body) -> Latched
     ensures { result ≡ left_latched b }
 {
@@ -131,6 +136,7 @@ fn stop(b: Body) -> Body
     e
 }
 
+#[tactic(auto, unfolding(crate::specs::Acts::start_of))]
 fn start(t: Times, b: Body) -> Body
     ensures { result ≡ start_of t b }
 {
@@ -159,6 +165,7 @@ fn sector(b: Body, size: SectorSize) -> Body
     e
 }
 
+#[tactic(auto, unfolding(crate::specs::Acts::acted_of))]
 pub fn acted(t: Times, b: Body, act: Act) -> Body
     ensures { result ≡ acted_of t b act }
 {

@@ -1,4 +1,6 @@
 // Command words carried out on a drive: what each does there and what it tells; the plain word rules.
+#![tactic(auto)]
+
 pub mod responses;
 
 ghost use Rattle.std.specs.Prelude.{◌≡◌};
@@ -9,14 +11,14 @@ use pack_profile::Profile;
 use word_table::{Effect, decide};
 
 // The response: a word of seventeen bits, its parity last.
-#[derive(Drop)]
+#[derive(Clone, Copy)]
 pub enum Told {
     Nothing,
     Word(u32),
 }
 
 // A word carried out on a drive, which leaves the transfer alone.
-#[derive(Drop)]
+#[derive(Clone, Copy)]
 pub struct Carried {
     pub body: Body,
     pub told: Told,
@@ -24,7 +26,7 @@ pub struct Carried {
 }
 
 // A word by the plain word rules: the drive that it leaves, the response, and whether a fault rule applied.
-#[derive(Drop)]
+#[derive(Clone, Copy)]
 pub struct Answered {
     pub state: State,
     pub told: Told,
@@ -42,6 +44,7 @@ fn say(b: Body, word: u16) -> Carried
 }
 
 // A whole word, carried out.
+#[tactic(auto, unfolding(crate::specs::Rules::done_of, crate::specs::Rules::carry_of))]
 pub fn carry(p: Profile, b: Body, n: u32) -> Carried
     ensures { result ≡ carry_of p b n }
 {
@@ -95,6 +98,7 @@ fn answer(s: State, c: Carried) -> Answered
 }
 
 // The plain word rules: a drive and a word with its parity bit at once.
+#[tactic(auto, unfolding(crate::specs::Rules::plain_of))]
 pub fn plain(p: Profile, s: State, n: u32) -> Answered
     ensures { result ≡ plain_of p s n }
 {

@@ -7,6 +7,7 @@ use counts::{Heads, SectorSize};
 use pack_profile::Profile;
 
 // Sixteen bits, and the parity that makes the ones among the seventeen odd.
+#[tactic(auto, unfolding(word_table::specs::Word::with_parity))]
 pub fn with_parity(word: u16) -> u32
     ensures { result ≡ with_parity word }
 {

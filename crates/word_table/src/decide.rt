@@ -12,6 +12,7 @@ use pack_profile::Profile;
 use word_acts::Act;
 
 // Whether the seventeen bits hold an odd number of ones.
+#[tactic(auto, unfolding(crate::specs::Word::odd_b))]
 fn odd(n: u32) -> bool
     ensures { result ≡ odd_b n }
 {
@@ -43,6 +44,7 @@ fn number(w: u16) -> u16
     w % 4096
 }
 
+#[tactic(auto, unfolding(crate::specs::Effect::option_b))]
 fn option_met(p: Profile, option: u8) -> bool
     ensures { result ≡ option_b p option }
 {
@@ -62,12 +64,14 @@ fn gaps(p: Profile) -> u16
 }
 
 // The sector sizes that may be set: a drive can't format one that its gaps fill.
+#[tactic(auto, unfolding(crate::specs::Effect::size_b))]
 fn size_ok(p: Profile, size: u16) -> bool
     ensures { result ≡ size_b p size }
 {
     pack_profile::valid::hard_size(size) & (gaps(p) < size)
 }
 
+#[tactic(auto, unfolding(crate::specs::Effect::operand_b))]
 fn operand_ok(p: Profile, act: u8, w: u16) -> bool
     ensures { result ≡ operand_b p act w }
 {
@@ -78,6 +82,7 @@ fn operand_ok(p: Profile, act: u8, w: u16) -> bool
     }
 }
 
+#[tactic(auto, unfolding(crate::specs::Effect::act_of))]
 fn acting(act: u8, w: u16) -> Effect
     ensures { result ≡ act_of act w }
 {
@@ -99,6 +104,7 @@ fn acting(act: u8, w: u16) -> Effect
 }
 
 // Seek, recalibrate or offset when not ready; seek or offset with the position lost.
+#[tactic(auto, unfolding(crate::specs::Effect::blocked_b))]
 fn blocked(b: Body, asks: u8) -> bool
     ensures { result ≡ blocked_b b asks }
 {
@@ -106,6 +112,7 @@ fn blocked(b: Body, asks: u8) -> bool
 }
 
 // The order for a whole word, the row being the one that its code and modifier find.
+#[tactic(auto, unfolding(crate::specs::Effect::order_of))]
 fn order(p: Profile, b: Body, n: u32, r: Row, w: u16) -> Effect
     ensures { result ≡ order_of p b n r w }
 {
@@ -127,6 +134,7 @@ fn order(p: Profile, b: Body, n: u32, r: Row, w: u16) -> Effect
 }
 
 // What a word with its parity comes to on a drive.
+#[tactic(auto, unfolding(crate::specs::Effect::effect_of))]
 pub fn effect(p: Profile, b: Body, n: u32) -> Effect
     ensures { result ≡ effect_of p b n }
 {

@@ -3,7 +3,7 @@ ghost use Rattle.std.specs.Prelude.{◌≡◌};
 ghost use Rattle.word_table.specs.Table.{fits_b, row_of, found_of};
 
 // A code, its modifiers from the first to the last, the option needed, what is asked of the drive, the act.
-#[derive(Drop)]
+#[derive(Clone, Copy)]
 pub struct Row {
     pub code: u8,
     pub from: u8,
@@ -175,6 +175,7 @@ fn row_fits(r: Row, code: u8, modifier: u8) -> bool
 }
 
 // The number of the first row that fits, or the invalid row's.
+#[tactic(auto, unfolding(crate::specs::Table::row_of))]
 fn row_of(code: u8, modifier: u8) -> usize
     ensures { result ≡ row_of code modifier }
 {
