@@ -15,7 +15,7 @@ import sys
 
 ID = r"[^\W\d◌][\w'′₀-₉]*(?:-[\w'′₀-₉]+)*"
 TOKEN = re.compile(r"[\w'′₀-₉◌]+(?:-[\w'′₀-₉◌]+)*")
-DECLARED = re.compile(r"\s*(?:(?:abbrev|unfoldable|pub|data|record)\s+)*(" + ID + r")\s*(?::(?!=)|\(|\{)")
+DECLARED = re.compile(r"\s*(?:(?:abbrev|unfoldable|pub)\s+)*(" + ID + r")\s*:(?!=)|\s*(?:pub\s+)?(?:data|record)\s+(" + ID + ")")
 # A lemma that would fall together with a definition, or with a name of the library, gets the library's ending.
 LEMMAS = (
     "at-once carried-out events-behind first-from in-slot left-latched no-time ones-in pack-length parts-answers sector-row state-in"
@@ -62,7 +62,7 @@ def names(root):
                     continue
                 m = DECLARED.match(line)
                 if m:
-                    found.setdefault(m.group(1), set()).add(path)
+                    found.setdefault(m.group(1) or m.group(2), set()).add(path)
     table = {}
     for old in found:
         new = BY_HAND.get(old, snake(old))

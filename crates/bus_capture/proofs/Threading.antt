@@ -1,5 +1,5 @@
 -- "chain and file": those that the first i bytes of a part left go on through a turn over the rest, to the part's end.
-use Rattle.std.proofs.Common.{◌≡◌, ℕ, ◌+◌, ◌-◌, ◌<◌, ◌≤◌, List, [], length, drop, sym, refl, ap, ◌∙◌, arith, length-drop, drop_drop}
+use Rattle.std.proofs.Common.{◌≡◌, ℕ, ◌+◌, ◌-◌, ◌<◌, ◌≤◌, List, [], length, drop, sym, refl, ap, ◌∙◌, arith, length-drop, drop-drop}
 use Rattle.event.specs.Numbers.{Numbers}
 use Rattle.chain_step.specs.Run.{lent, lent_through}
 use Rattle.capture_samples.specs.declared.Sample.{Sample}
@@ -22,7 +22,7 @@ pub turn_threads : {part file₀ file out file' out' : List ℕ} {s₀ s : Sessi
     → Fed (drop i part) s file out r file' out' → Threads part s₀ file₀ (i + r.used) r.session file'
 turn_threads {part} {i = i} {r = r} h f =
     let t = turn_joins f in
-    let d = drop_drop r.used i part in
+    let d = drop-drop r.used i part in
     record {
       lent = rw (← d) (t.lent ∙ h.lent);
       lines = rw (← d) (t.lines ∙ h.lines);
@@ -35,7 +35,7 @@ pub turn_fewer : (part : List ℕ) (i : ℕ) {file out file' out' : List ℕ} {s
     × (length (to_come r.session.at part (i + r.used)) + (length part - (i + r.used)) < length (to_come s.at part i) + (length part - i))
 turn_fewer part i {r = r} f h =
     let n = length-drop i part in
-    let g = rw (drop_drop r.used i part) at (f.goes (omega arith)) in
+    let g = rw (drop-drop r.used i part) at (f.goes (omega arith)) in
     (omega (arith, f.used), omega (arith, f.used))
 
 -- no sample is left

@@ -3,8 +3,8 @@ use Prim.Native.Nat.{ℕ, ◌+◌, ◌-◌, ◌≤◌, ◌<◌}
 use mathlib.Core.Path.{◌≡◌, sym, ap, ◌∙◌}
 use mathlib.Core.List.{List, [], ◌++◌, append_assoc, append-nil}
 use native.Mathlib.Omega.{arith}
-use lib.ListN.{length, take, drop, length_append, length-drop, drop_of_length-le, take-append-drop}
-use lib.Seq.{length-take-le, drop_drop, take_at, drop_at}
+use lib.ListN.{length, take, drop, length-append, length-drop, drop_of_length-le, take-append-drop}
+use lib.Seq.{length-take-le, drop-drop, take_at, drop_at}
 use borrow.Author.Tests.{le-leb, lt-leb}
 use Rattle.counts.proofs.Parts.{rest}
 use Rattle.bus_text.specs.AnswerLine.{longest_line}
@@ -43,22 +43,22 @@ put_behind {old} {line} {new} {at} {next} p h =
     let m : length line ≤ longest_line = simp e at p.short in
     let k = p.within h in
     let w : new ≡ (take at old ++ line) ++ drop next old =
-    (simp e at p.holds) ∙ rw (drop_drop (length line) at old, n, append_assoc) in
-    let l : length (take at old ++ line) ≡ next = omega (arith, length_append (take at old) line, length-take-le at old (omega arith)) in
+    (simp e at p.holds) ∙ rw (drop-drop (length line) at old, n, append_assoc) in
+    let l : length (take at old ++ line) ≡ next = omega (arith, length-append (take at old) line, length-take-le at old (omega arith)) in
     record {
       waits = rw w (take_at (take at old ++ line) (drop next old) next l);
       rest = rw w (drop_at (take at old ++ line) (drop next old) next l);
       further = omega arith;
       near = omega arith;
       within = k;
-      holds = rw w (omega (arith, l, length_append (take at old ++ line) (drop next old)));
+      holds = rw w (omega (arith, l, length-append (take at old ++ line) (drop next old)));
     }
 
 -- what is the same from a place on is the same from any further one
 pub drop_further : (old new : List ℕ) (at next : ℕ) → at ≤ next → drop at new ≡ drop at old → drop next new ≡ drop next old
 drop_further old new at next h e =
     let k : at + (next - at) ≡ next = omega arith in
-    ap (λ (n : ℕ). drop n new) (sym k) ∙ sym (drop_drop (next - at) at new) ∙ ap (λ (l : List ℕ). drop (next - at) l) e ∙ drop_drop (next - at) at old
+    ap (λ (n : ℕ). drop n new) (sym k) ∙ sym (drop-drop (next - at) at new) ∙ ap (λ (l : List ℕ). drop (next - at) l) e ∙ drop-drop (next - at) at old
     ∙ ap (λ (n : ℕ). drop n old) k
 
 -- the output, of what waits in it and of its end

@@ -1,5 +1,5 @@
 -- A part run byte by byte: what its first line comes to, and where the run stops. The loop of `feed` follows it.
-use Rattle.std.proofs.Common.{◌≡◌, ℕ, suc, ◌+◌, ◌<◌, Bool, true, false, ◌&&◌, eqb, List, [], ◌∷◌, length, drop, sym, refl, ap, ◌∙◌, arith, length-drop, drop_drop, eqb-true}
+use Rattle.std.proofs.Common.{◌≡◌, ℕ, suc, ◌+◌, ◌<◌, Bool, true, false, ◌&&◌, eqb, List, [], ◌∷◌, length, drop, sym, refl, ap, ◌∙◌, arith, length-drop, drop-drop, eqb-true}
 use Rattle.counts.specs.Choice.{if◌then◌else◌}
 use Rattle.counts.proofs.Choice.{by_test}
 use Rattle.bus_text.specs.TextBytes.{newline}
@@ -55,15 +55,15 @@ line_ends (b ∷ l) =
 -- a line of the part: it was run up to the place n, and the line that goes on there stops as told
 module _ {t : Stream} {part : List ℕ} {n : ℕ} {u : Stream} {stop : Stop} (g : Goes t part n u (drop n part)) (e : stop ≡ line_stop (drop n part) u.session.scan) where
   pub over_line : Goes t part (n + stop.at) (scanned_of u stop.scan) (drop (n + stop.at) part)
-  over_line = rw e (rw drop_drop at (goes_then refl g (goes_line (drop n part) u)))
+  over_line = rw e (rw drop-drop at (goes_then refl g (goes_line (drop n part) u)))
 
   newline_there : n + stop.at < length part → drop (n + stop.at) part ≡ newline ∷ drop (n + stop.at + 1) part
   newline_there h =
       let w = first_line (drop n part) in
       let k : n + length w < length part = rw e at h in
       let z : n + suc (length w) ≡ n + length w + 1 = omega arith in
-      rw e (sym (drop_drop (length w) n part) ∙ line_ends (drop n part) (omega (arith, length-drop n part))
-      ∙ ap (λ (l : List ℕ). newline ∷ l) (drop_drop (suc (length w)) n part ∙ ap (λ (i : ℕ). drop i part) z))
+      rw e (sym (drop-drop (length w) n part) ∙ line_ends (drop n part) (omega (arith, length-drop n part))
+      ∙ ap (λ (l : List ℕ). newline ∷ l) (drop-drop (suc (length w)) n part ∙ ap (λ (i : ℕ). drop i part) z))
 
   pub over_newline : is_full (scanned_of u stop.scan) ≡ false → n + stop.at < length part
       → Goes t part (n + stop.at + 1) (answered_of (scanned_of u stop.scan)) (drop (n + stop.at + 1) part)

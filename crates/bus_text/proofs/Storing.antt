@@ -4,7 +4,7 @@ use mathlib.Core.Path.{◌≡◌, sym, ap, ◌∙◌}
 use mathlib.Core.List.{List, [], ◌∷◌, ◌++◌}
 use native.Mathlib.Omega.{arith}
 use native.Mathlib.Nat.{add-zero, zero-add}
-use lib.ListN.{length, set, length_append}
+use lib.ListN.{length, set, length-append}
 use lib.Seq.{sets, sets-eq}
 use borrow.Author.Tests.{le-leb, lt-leb}
 use Rattle.bus_text.specs.AnswerLine.{longest_line}
@@ -18,7 +18,7 @@ sets_append (x ∷ t) u l at =
 pub put_then : {old mid new t u : List ℕ} {at p q : ℕ} → Put old at t mid p → Put mid p u new q → Put old at (t ++ u) new q
 put_then {old = old} {t = t} {u = u} {at = at} a b = record {
   holds = b.holds ∙ rw (a.holds, a.ends) (sym (sets_append t u old at));
-  ends = omega (arith, a.ends, b.ends, length_append t u);
+  ends = omega (arith, a.ends, b.ends, length-append t u);
 }
 
 -- a part too short for the longest line

@@ -1,5 +1,5 @@
 -- Lines that change: the first that differs, taken to its new level; and how many do.
-use Rattle.std.proofs.Common.{◌≡◌, ℕ, ◌+◌, Bool, true, false, eqb, [], ◌∷◌, length, refl, ap, arith, length_append, eq-eqb, ne_eqb}
+use Rattle.std.proofs.Common.{◌≡◌, ℕ, ◌+◌, Bool, true, false, eqb, [], ◌∷◌, length, refl, ap, arith, length-append, eq-eqb, ne_eqb}
 use Rattle.counts.specs.Choice.{if◌then◌else◌}
 use Rattle.lines.specs.declared.Lines.{Lines}
 use Rattle.lines.specs.Lines.{with_select, with_heads, with_readgate, with_writegate, with_command, with_request}
@@ -21,7 +21,7 @@ pub changes_many : (old new : Lines)
     + differs old.writegate new.writegate + differs old.command new.command + differs old.request new.request
 unfolding changes_of
 changes_many old new =
-    simp (length_append, one_line) (omega arith)
+    simp (length-append, one_line) (omega arith)
 
 same : (kind old new : ℕ) → old ≡ new → change_of kind old new ≡ []
 unfolding change_of

@@ -1,5 +1,5 @@
 -- A capture's events counted sample by sample.
-use Rattle.std.proofs.Common.{◌≡◌, ℕ, ◌+◌, ◌-◌, ◌<◌, ◌≤◌, Bool, List, length, drop, sym, ap, ◌∙◌, length_append, le-leb}
+use Rattle.std.proofs.Common.{◌≡◌, ℕ, ◌+◌, ◌-◌, ◌<◌, ◌≤◌, Bool, List, length, drop, sym, ap, ◌∙◌, length-append, le-leb}
 use borrow.Author.Tests.{lt-leb}
 use Rattle.counts.specs.Choice.{if◌then◌else◌}
 use Rattle.lines.specs.declared.Lines.{Lines}
@@ -19,7 +19,7 @@ most_counted most n h = sym (ap (λ (t : Bool). if t then n else most) (lt-leb n
 pub time_and_lines : (earlier later : Sample)
     → length (events_to earlier later) ≡ length (passing_of (gap_of later.stamp earlier.stamp)) + length (changes_of earlier.lines later.lines)
 unfolding events_to
-time_and_lines earlier later = length_append (passing_of (gap_of later.stamp earlier.stamp)) (changes_of earlier.lines later.lines)
+time_and_lines earlier later = length-append (passing_of (gap_of later.stamp earlier.stamp)) (changes_of earlier.lines later.lines)
 
 -- so many events are left once so many bytes are used
 abbrev pub left : Sample → List ℕ → ℕ → ℕ
@@ -33,7 +33,7 @@ in_all start capture at e = ap length (all_come start capture at e)
 pub left_on : (at to : Sample) (capture : List ℕ) (used n : ℕ) → sample_length ≤ length capture - used → to ≡ sample_of (drop used capture) → n ≡ length (events_to at to)
     → left at capture used ≡ n + left to capture (used + sample_length)
 left_on at to capture used n h e k =
-    ap length (comes_to to capture used h e at) ∙ length_append (events_to at to) (to_come to capture (used + sample_length))
+    ap length (comes_to to capture used h e at) ∙ length-append (events_to at to) (to_come to capture (used + sample_length))
     ∙ ap (λ (m : ℕ). m + left to capture (used + sample_length)) (sym k)
 
 pub none_left : (at : Sample) (capture : List ℕ) (used : ℕ) → length capture - used < sample_length → left at capture used ≡ 0

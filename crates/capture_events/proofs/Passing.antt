@@ -1,5 +1,5 @@
 -- Time between two stamps: the gap by itself, and the events that let it pass.
-use Rattle.std.proofs.Common.{◌≡◌, ℕ, zero, suc, ◌+◌, ◌-◌, ◌/◌, ◌%◌, ◌^◌, ◌<◌, ◌≤◌, Bool, [], ◌∷◌, ◌++◌, length, refl, ap, ◌∙◌, arith, length_append, eq-eqb, ne_eqb}
+use Rattle.std.proofs.Common.{◌≡◌, ℕ, zero, suc, ◌+◌, ◌-◌, ◌/◌, ◌%◌, ◌^◌, ◌<◌, ◌≤◌, Bool, [], ◌∷◌, ◌++◌, length, refl, ap, ◌∙◌, arith, length-append, eq-eqb, ne_eqb}
 use Rattle.counts.specs.Choice.{if◌then◌else◌}
 use Rattle.capture_events.specs.Events.{gap_of, longest, passing, whole_spans, rest_span, passing_of}
 
@@ -53,7 +53,7 @@ spans_many (suc n) = ap suc (spans_many n)
 
 passes_many : (gap : ℕ) → length (passing_of gap) ≡ gap / longest + length (rest_span (gap % longest))
 unfolding passing_of
-passes_many gap = length_append (whole_spans (gap / longest)) (rest_span (gap % longest)) ∙ ap (λ (n : ℕ). n + length (rest_span (gap % longest))) (spans_many (gap / longest))
+passes_many gap = length-append (whole_spans (gap / longest)) (rest_span (gap % longest)) ∙ ap (λ (n : ℕ). n + length (rest_span (gap % longest))) (spans_many (gap / longest))
 
 pub passes_whole : (gap : ℕ) → gap % longest ≡ 0 → length (passing_of gap) ≡ gap / longest
 passes_whole gap h =

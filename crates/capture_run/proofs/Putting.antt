@@ -5,7 +5,7 @@ use Prim.Native.Nat.{ℕ, suc, ◌+◌, ◌≤◌}
 use native.Mathlib.Omega.{arith}
 use native.Mathlib.Numerals.{add-one}
 use lib.ListN.{length, take, drop, set, length-set, take-append-drop}
-use lib.Seq.{length-take-le, take-suc-set, drop_set_lt}
+use lib.Seq.{length-take-le, take-suc-set, drop-set-lt}
 use Rattle.event.specs.declared.Answer.{Answer}
 use Rattle.event.specs.Answer.{answer_number, answer_value}
 use Rattle.capture_run.specs.Captured.{answer_put}
@@ -24,7 +24,7 @@ module _ (l : List ℕ) (at : ℕ) (a : Answer) where
       ∙ append_assoc (take at l) (answer_number a ∷ []) (answer_value a ∷ [])
 
   pub put_behind : drop (at + 2) (answer_put l at a) ≡ drop (at + 2) l
-  put_behind = drop_set_lt (at + 2) (set l at (answer_number a)) (at + 1) (answer_value a) (omega arith) ∙ drop_set_lt (at + 2) l at (answer_number a) (omega arith)
+  put_behind = drop-set-lt (at + 2) (set l at (answer_number a)) (at + 1) (answer_value a) (omega arith) ∙ drop-set-lt (at + 2) l at (answer_number a) (omega arith)
 
 -- all of them down: they stand in front, and the rest is as it was
 pub all_put : (old new text : List ℕ) (n : ℕ) → n ≤ length new → take n new ≡ text → drop n new ≡ drop n old → new ≡ text ++ drop (length text) old

@@ -4,7 +4,7 @@ use mathlib.Core.List.{List, [], ◌∷◌, ◌++◌, append_assoc, append-nil}
 use Prim.Native.Nat.{ℕ, ◌+◌, ◌-◌, ◌*◌, ◌≤◌, ◌<◌}
 use native.Mathlib.Omega.{arith}
 use lib.ListN.{length, take, drop}
-use lib.Seq.{drop_drop}
+use lib.Seq.{drop-drop}
 use Rattle.event.specs.Numbers.{Numbers}
 use Rattle.event.specs.Answer.{answer_number, answer_value}
 use Rattle.chain_record.specs.declared.Chain.{Chain}
@@ -75,7 +75,7 @@ module _ {c₀ : Chain} {file₀ capture answers₀ : List ℕ} {chain : Chain} 
                 ∙ sym (ap (λ (l : List Numbers). take said answers ++ answer_bytes (answers_through l d)) next) ∙ r.says;
             rest =
                 ap (λ (t : List ℕ). drop (said + 2) t) f.says ∙ put_behind answers said said-is
-                ∙ sym (drop_drop 2 said answers) ∙ ap (λ (t : List ℕ). drop 2 t) r.rest ∙ drop_drop 2 said answers₀;
+                ∙ sym (drop-drop 2 said answers) ∙ ap (λ (t : List ℕ). drop 2 t) r.rest ∙ drop-drop 2 said answers₀;
             long = ap length f.says ∙ put_long answers said said-is ∙ r.long;
             whole = l ∙ r.whole;
             room = omega (arith, r.room, ap length next, ap length f.says, put_long answers said said-is);

@@ -4,8 +4,8 @@ use mathlib.Core.Bool.{Bool, true, false}
 use mathlib.Core.List.{List, [], ◌∷◌, ◌++◌}
 use Prim.Native.Nat.{ℕ, zero, suc, ◌+◌, ◌-◌, ◌*◌, ◌/◌, ◌≤◌, ◌<◌}
 use native.Mathlib.Omega.{arith}
-use lib.ListN.{length, get_or, drop, length-drop, length_append, get_or-append}
-use lib.Seq.{drop_drop, drop-append-le}
+use lib.ListN.{length, get_or, drop, length-drop, length-append, get_or-append}
+use lib.Seq.{drop-drop, drop-append-le}
 use Rattle.counts.specs.Choice.{if◌then◌else◌}
 use Rattle.counts.proofs.Choice.{by_test}
 use Rattle.capture_samples.specs.declared.Sample.{Sample}
@@ -41,10 +41,10 @@ module _ (l : List ℕ) (at : ℕ) (h : sample_length ≤ length l - at) where
   left = rw (length-drop at l) h
 
   pub next_sample : samples_of (drop at l) ≡ sample_of (drop at l) ∷ samples_of (drop (at + sample_length) l)
-  next_sample = first_sample (drop at l) left ∙ ap (λ (m : List ℕ). sample_of (drop at l) ∷ samples_of m) (drop_drop sample_length at l)
+  next_sample = first_sample (drop at l) left ∙ ap (λ (m : List ℕ). sample_of (drop at l) ∷ samples_of m) (drop-drop sample_length at l)
 
   next_good : good_bytes (drop at l) ≡ (if levels_b (drop at l) then sample_length + good_bytes (drop (at + sample_length) l) else 0)
-  next_good = first_good (drop at l) left ∙ ap (λ (m : List ℕ). if levels_b (drop at l) then sample_length + good_bytes m else 0) (drop_drop sample_length at l)
+  next_good = first_good (drop at l) left ∙ ap (λ (m : List ℕ). if levels_b (drop at l) then sample_length + good_bytes m else 0) (drop-drop sample_length at l)
 
   -- one good sample more
   pub good_on : good_bytes l ≡ at + good_bytes (drop at l) → levels_b (drop at l) ≡ true → good_bytes l ≡ (at + sample_length) + good_bytes (drop (at + sample_length) l)
@@ -74,7 +74,7 @@ samples_behind zero [] ys h = sym (ap (λ (l : List Sample). l ++ samples_of ys)
 samples_behind zero (x ∷ xs) ys h = absurd (omega arith)
 samples_behind (suc n) xs ys h =
     let k : sample_length ≤ length xs = omega arith in
-    let m : sample_length ≤ length (xs ++ ys) = omega (arith, length_append xs ys) in
+    let m : sample_length ≤ length (xs ++ ys) = omega (arith, length-append xs ys) in
     first_sample (xs ++ ys) m
     ∙ ap (λ (l : List Sample). sample_of (xs ++ ys) ∷ l)
     (ap (λ (l : List ℕ). samples_of l) (drop-append-le sample_length xs ys k) ∙ samples_behind n (drop sample_length xs) ys (omega (arith, length-drop sample_length xs)))
@@ -90,7 +90,7 @@ front_levels xs ys h =
 module _ (xs ys : List ℕ) (h : sample_length ≤ length xs) where
   front_good : good_bytes (xs ++ ys) ≡ (if levels_b xs then sample_length + good_bytes (drop sample_length xs ++ ys) else 0)
   front_good =
-      first_good (xs ++ ys) (omega (arith, length_append xs ys))
+      first_good (xs ++ ys) (omega (arith, length-append xs ys))
       ∙ ap (λ (b : Bool). if b then sample_length + good_bytes (drop sample_length (xs ++ ys)) else 0) (front_levels xs ys h)
       ∙ ap (λ (l : List ℕ). if levels_b xs then sample_length + good_bytes l else 0) (drop-append-le sample_length xs ys h)
 

@@ -7,7 +7,7 @@ use native.Mathlib.Omega.{arith}
 use native.Mathlib.Numerals.{add-one}
 use borrow.Author.Tests.{eqb-true, eqb-false, eq-eqb, ne_eqb, ltb-false, le-ltb}
 use lib.Dec.{ltb, eqb}
-use lib.ListN.{length, take, set, replicate, length-set, length_append}
+use lib.ListN.{length, take, set, replicate, length-set, length-append}
 use Rattle.pack_trailer.specs.Form.{trailer_length}
 use Rattle.counts.specs.declared.Place.{Place}
 use Rattle.counts.specs.Choice.{if◌then◌else◌}
@@ -96,7 +96,7 @@ module _ (n base : ℕ) (x : Contents) (xs : List Contents) (place : ℕ) (s : S
   here : x.profile.slot ≡ base → Placed n (suc base) xs (place + length (pack_bytes x)) → Placed (suc n) base (x ∷ xs) place
   here own r =
       let end = place + length (pack_bytes x) in
-      let long : place + length (file_of (x ∷ xs)) ≡ end + length (file_of xs) = omega (arith, length_append (pack_bytes x) (file_of xs)) in
+      let long : place + length (file_of (x ∷ xs)) ≡ end + length (file_of xs) = omega (arith, length-append (pack_bytes x) (file_of xs)) in
       rw (front x xs base place no_pack (replicate n no_pack) s own, long)
       (pack_goes_on x.profile (slots_from (suc base) xs end (replicate n no_pack)) base place (end + length (file_of xs)) end own s.0
       (omega (arith, pack_length_lem x, s.1)) (omega (arith, long)) ∙ rw (add-one base) r)
@@ -119,7 +119,7 @@ placed (suc n) base [] place e s h short =
     ∙ rw (add-one base) (placed n (suc base) [] place (omega arith) tt (omega arith) short)
 placed (suc n) base (x ∷ xs) place e (v, m, b, s) h short =
     next n base x xs place (v, m, b, s) h short
-    (λ own. placed n (suc base) xs (place + length (pack_bytes x)) (omega arith) s (omega arith) (omega (arith, length_append (pack_bytes x) (file_of xs))))
+    (λ own. placed n (suc base) xs (place + length (pack_bytes x)) (omega arith) s (omega arith) (omega (arith, length-append (pack_bytes x) (file_of xs))))
     (λ other. placed n (suc base) (x ∷ xs) place (omega arith) (v, m, b, s) other short)
     (eqb x.profile.slot base) refl
 

@@ -2,7 +2,7 @@
 use mathlib.Core.Path.{◌≡◌, refl}
 use mathlib.Core.Bool.{true}
 use Prim.Native.Nat.{ℕ, ◌+◌, ◌*◌, ◌/◌, ◌^◌, ◌≤◌, ◌<◌}
-use native.Mathlib.Nat.{div_eq_of_lt, div-lt_iff_lt-mul, mod-le, two-pow-succ}
+use native.Mathlib.Nat.{div-eq_of_lt, div-lt_iff_lt-mul, mod-le, two-pow-succ}
 use native.Mathlib.Numerals.{add-one}
 use native.Mathlib.Omega.{arith}
 use lib.Dec.{ltb, eqb}
@@ -23,7 +23,7 @@ doubled k = rw (add-one k) (two-pow-succ k)
 taken_below : (bits count level : ℕ) → bits / 2 ^ count ≡ 0 → level ≤ 1 → taken_bit bits level / 2 ^ (count + 1) ≡ 0
 taken_below bits count level h low =
     let small : bits < 1 * 2 ^ count = (div-lt_iff_lt-mul {k = 2 ^ count} {x = bits} {y = 1} (pow_pos count)).0 (omega arith) in
-    div_eq_of_lt {n = taken_bit bits level} {m = 2 ^ (count + 1)} (omega (arith, mod-le bits 65_536, doubled count))
+    div-eq_of_lt {n = taken_bit bits level} {m = 2 ^ (count + 1)} (omega (arith, mod-le bits 65_536, doubled count))
 
 next : (count : ℕ) → count ≤ 16 → (if ltb count word_bits then count + 1 else word_bits) ≡ count + 1
 next count h = rw (lt-ltb count word_bits (omega arith))

@@ -4,7 +4,7 @@ use native.Mathlib.Omega.{arith}
 use mathlib.Core.Path.{◌≡◌, refl, ap, ap₂, ◌∙◌}
 use mathlib.Core.Bool.{true}
 use mathlib.Core.List.{List, [], ◌∷◌, ◌++◌, append-nil}
-use lib.ListN.{length, replicate, take, drop, length_append, length-replicate, length-drop, drop_of_length-le}
+use lib.ListN.{length, replicate, take, drop, length-append, length-replicate, length-drop, drop_of_length-le}
 use lib.Seq.{take_at, drop_at}
 use Rattle.pack_profile.specs.declared.Profile.{Profile}
 use Rattle.pack_profile.specs.Profile.{medium_of}
@@ -59,5 +59,5 @@ module _ (p q : Profile) (v : valid_b p ≡ true) (w : valid_b q ≡ true) (l : 
       let n : (x : Profile) → length (replicate {A = ℕ} (medium_of x.shape) 0) ≡ medium_of x.shape = λ x. length-replicate (medium_of x.shape) 0 in
       let same = two_laid long small in
       let all : length (laid_file (p ∷ q ∷ [])) ≡ length l =
-      length_append (laid_pack p) (laid_pack q ++ []) ∙ rw (append-nil, laid_length p, laid_length q, long) in
+      length-append (laid_pack p) (laid_pack q ++ []) ∙ rw (append-nil, laid_length p, laid_length q, long) in
       rw same (laid_file_reads (p ∷ q ∷ []) (v, n p, rising, (w, n q, omega arith, tt)) (omega arith))

@@ -6,9 +6,9 @@ use mathlib.Core.List.{List, [], ◌∷◌, ◌++◌, append_assoc, append-nil}
 use Prim.Native.Nat.{ℕ, zero, suc, ◌+◌, ◌-◌, ◌≤◌, ◌<◌}
 use native.Mathlib.Omega.{arith}
 use borrow.Author.Tests.{eqb-true}
-use lib.ListN.{length, take, drop, set, replicate, length_append, length-replicate, length-drop, take-append-drop}
+use lib.ListN.{length, take, drop, set, replicate, length-append, length-replicate, length-drop, take-append-drop}
 use lib.Dec.{eqb, ltb}
-use lib.Seq.{get_or-drop, take_at, length-take-le, drop_drop}
+use lib.Seq.{get_or-drop, take_at, length-take-le, drop-drop}
 use Rattle.pack_trailer.specs.Form.{trailer_length}
 use Rattle.counts.specs.declared.Place.{Place}
 use Rattle.counts.specs.Choice.{if◌then◌else◌}
@@ -66,7 +66,7 @@ slots_more (y ∷ xs) x place found =
     ap (λ (s : List Pack). set s (y.profile.slot - 1) (fitted_pack (record { 0 = place }) y.profile))
     (slots_more xs x (place + length (pack_bytes y)) found
     ∙ ap (λ (k : ℕ). slots_of xs (place + length (pack_bytes y)) (set found (x.profile.slot - 1) (fitted_pack (record { 0 = k }) x.profile)))
-    (omega (arith, length_append (pack_bytes y) (file_of xs))))
+    (omega (arith, length-append (pack_bytes y) (file_of xs))))
 
 -- the pack that was read: its medium, as it stands in the file
 module _ (l : List ℕ) (small : Bytes l) (limit : ℕ) (s : Place) (p : Profile) (e : last_pack l limit ≡ Found s p) where
@@ -91,7 +91,7 @@ module _ (l : List ℕ) (small : Bytes l) (limit : ℕ) (s : Place) (p : Profile
       let h = g in
       let behind : s.0 + medium_of p.shape ≡ length l - trailer_length = omega arith in
       let t : drop (medium_of p.shape) (drop s.0 l) ≡ trailer_of p (length contents.medium + trailer_length) =
-      drop_drop (medium_of p.shape) s.0 l ∙ rw (behind, medium_long) (sym trailer_again) in
+      drop-drop (medium_of p.shape) s.0 l ∙ rw (behind, medium_long) (sym trailer_again) in
       sym (take-append-drop (medium_of p.shape) (drop s.0 l)) ∙ ap (λ (b : List ℕ). contents.medium ++ b) t
 
   more : (found slots : List Pack) → Made (take s.0 l) p.slot (set found (p.slot - 1) (fitted_pack s p)) slots → Made l limit found slots

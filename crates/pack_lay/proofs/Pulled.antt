@@ -6,8 +6,8 @@ use Prim.Native.Nat.{ℕ, zero, suc, ◌+◌, ◌-◌, ◌≤◌, ◌<◌}
 use native.Mathlib.Omega.{arith}
 use borrow.Author.Tests.{leb-true, leb-false}
 use lib.Dec.{leb}
-use lib.ListN.{length, take, drop, set, get_or, replicate, length_append, length-set, length-replicate}
-use lib.Seq.{get_or-append-add, get_or_take, get_or-drop, get_or-set_same, drop_set_lt, take-append-add, length-take-le, drop_at}
+use lib.ListN.{length, take, drop, set, get_or, replicate, length-append, length-set, length-replicate}
+use lib.Seq.{get_or-append-add, get_or-take, get_or-drop, get_or-set_same, drop-set-lt, take-append-add, length-take-le, drop_at}
 use Rattle.counts.specs.Bytes.{one, bytes4, Bytes}
 use Rattle.counts.proofs.Bytes.{four_bytes, bytes_four, bytes_take, bytes_append}
 use Rattle.pack_profile.specs.declared.Profile.{Profile}
@@ -35,7 +35,7 @@ pub spoiled_refused : (front x : List ℕ) (m : ℕ) → length x ≡ m + traile
     → (read_all (front ++ x)).answer ≡ answer.Whole → ⊥
 spoiled_refused front x m long spoiled whole =
     let file = front ++ x in
-    let n = length_append front x in
+    let n = length-append front x in
     let h = ends file (λ z. omega arith) whole in
     let g = good file 8 h.place h.profile h.found in
     let at : length file - trailer_length + form_place ≡ length front + (m + form_place) = omega arith in
@@ -57,7 +57,7 @@ module _ (p : Profile) where
   distance = drop distance_place (pack_trailer p)
 
   undone_length : length undone ≡ m + distance_place
-  undone_length = length_append (replicate {A = ℕ} m 0) fields ∙ ap (λ (k : ℕ). k + distance_place) (length-replicate {A = ℕ} m 0)
+  undone_length = length-append (replicate {A = ℕ} m 0) fields ∙ ap (λ (k : ℕ). k + distance_place) (length-replicate {A = ℕ} m 0)
 
   laid_is : laid_pack p ≡ undone ++ distance
   laid_is = sym (append_assoc (replicate m 0) fields distance)
@@ -69,7 +69,7 @@ module _ (p : Profile) where
       ap (λ (b : List ℕ). front ++ b) (append_assoc (replicate m 0) fields y) ∙ sym (append_assoc front (replicate m 0) (fields ++ y)) in
       let k = length ((front ++ replicate m 0) ++ (fields ++ y)) - trailer_length in
       let long : length (front ++ replicate m 0) ≡ k =
-      omega (arith, length_append (front ++ replicate m 0) (fields ++ y), length_append fields y) in
+      omega (arith, length-append (front ++ replicate m 0) (fields ++ y), length-append fields y) in
       rw e (drop_at (front ++ replicate m 0) (fields ++ y) k long)
 
   -- where all but the distance is the pack's, any four bytes that read are its distance
@@ -77,8 +77,8 @@ module _ (p : Profile) where
   unfolding profile_of
   finished front y v n small whole =
       let file = front ++ (undone ++ y) in
-      let long = length_append front (undone ++ y) in
-      let part = length_append undone y in
+      let long = length-append front (undone ++ y) in
+      let part = length-append undone y in
       let h = ends file (λ z. omega arith) whole in
       let g = good file 8 h.place h.profile h.found in
       let t = trailer_there front y n in
@@ -113,7 +113,7 @@ module _ (p : Profile) (l : List ℕ) (ok : laid_answer p (length l) ≡ Done) w
       let r = room in
       let n : length (take k (laid_pack p)) ≡ k = length-take-le k (laid_pack p) (omega (arith, laid_length p)) in
       let there : k + (f - k) ≡ f = omega arith in
-      get_or_take (pack_length p) (written (take (suc k) (writes_of p)) l) f 0 (omega arith)
+      get_or-take (pack_length p) (written (take (suc k) (writes_of p)) l) f 0 (omega arith)
       ∙ ap (λ (s : List ℕ). get_or s f 0) (so_far k k n)
       ∙ ap (λ (i : ℕ). get_or (take k (laid_pack p) ++ drop k spoiled) i 0) (sym (rw n there))
       ∙ get_or-append-add (take k (laid_pack p)) (drop k spoiled) (f - k) 0
@@ -133,16 +133,16 @@ module _ (p : Profile) (l : List ℕ) (ok : laid_answer p (length l) ≡ Done) w
         let u = undone_length p in
         let taken : take count (laid_pack p) ≡ undone p ++ take i (distance p) =
         rw (laid_is p, ← u) (take-append-add (undone p) (distance p) i) in
-        let far = length_append (undone p) (take i (distance p)) in
+        let far = length-append (undone p) (take i (distance p)) in
         let same : drop (length (take count (laid_pack p))) spoiled ≡ drop (length (take count (laid_pack p))) l =
-        drop_set_lt (length (take count (laid_pack p))) l (m p + form_place) 0 (omega (arith, ap length taken)) in
+        drop-set-lt (length (take count (laid_pack p))) l (m p + form_place) 0 (omega (arith, ap length taken)) in
         let end : pack_length p ≡ length (undone p) + 4 = omega arith in
         rw (so_far count _ refl, same, taken, append_assoc (undone p) (take i (distance p)) _, end) (take-append-add (undone p) _ 4)
 
     four_left : length (take 4 beside) ≡ 4
     four_left =
         let c = cut_length (suc count) in
-        omega (arith, ap length fields_written, length_append (undone p) (take 4 beside), undone_length p)
+        omega (arith, ap length fields_written, length-append (undone p) (take 4 beside), undone_length p)
 
     beside_small : Bytes l → Bytes (take 4 beside)
     beside_small small =

@@ -5,7 +5,7 @@ use mathlib.Core.List.{List, [], ◌∷◌, ◌++◌, append_assoc, append-nil}
 use Prim.Native.Nat.{ℕ, suc, ◌+◌, ◌-◌, ◌≤◌, ◌<◌}
 use native.Mathlib.Omega.{arith}
 use borrow.Author.Tests.{le-ltb, eq-eqb, lt-leb}
-use lib.ListN.{length, length_append}
+use lib.ListN.{length, length-append}
 use lib.Seq.{drop_at, take_at}
 use Rattle.pack_trailer.specs.Form.{trailer_length}
 use Rattle.pack_profile.specs.Profile.{medium_of}
@@ -24,18 +24,18 @@ use Rattle.pack_read.proofs.Checked.{checked_by}
 use Rattle.pack_read.proofs.Back.{Reads, reads_whole, reads_pack, last_trailer}
 
 pub pack_length_lem : (x : Contents) → length (pack_bytes x) ≡ length x.medium + trailer_length
-pack_length_lem x = length_append x.medium (trailer_of x.profile (length x.medium + trailer_length))
+pack_length_lem x = length-append x.medium (trailer_of x.profile (length x.medium + trailer_length))
 
 -- the pack at the end of a file
 module _ (front : List ℕ) (x : Contents) (limit : ℕ) where
   whole : length (front ++ pack_bytes x) ≡ length front + (length x.medium + trailer_length)
-  whole = length_append front (pack_bytes x) ∙ ap (λ (k : ℕ). length front + k) (pack_length_lem x)
+  whole = length-append front (pack_bytes x) ∙ ap (λ (k : ℕ). length front + k) (pack_length_lem x)
 
   trailer_there : last_trailer (front ++ pack_bytes x) ≡ trailer_of x.profile (length x.medium + trailer_length)
   trailer_there =
       rw (← append_assoc front x.medium (trailer_of x.profile (length x.medium + trailer_length)))
       (drop_at (front ++ x.medium) _ (length (front ++ x.medium ++ trailer_of x.profile (length x.medium + trailer_length)) - trailer_length)
-      (simp length_append (omega arith)))
+      (simp length-append (omega arith)))
 
   module _ (v : valid_b x.profile ≡ true) (m : length x.medium ≡ medium_of x.profile.shape)
       (small : length (front ++ pack_bytes x) ≤ longest_file) (below : x.profile.slot < limit) where
@@ -66,8 +66,8 @@ reads_file [] front limit found r s small h = rw append-nil h
 reads_file (x ∷ xs) front limit found r (v, m, below, s) small h =
     let l = front ++ pack_bytes x in
     let e : front ++ (pack_bytes x ++ file_of xs) ≡ l ++ file_of xs = sym (append_assoc front (pack_bytes x) (file_of xs)) in
-    let n : length l ≡ length front + length (pack_bytes x) = length_append front (pack_bytes x) in
-    let k : length l ≤ longest_file = omega (arith, length_append l (file_of xs), ap length e) in
+    let n : length l ≡ length front + length (pack_bytes x) = length-append front (pack_bytes x) in
+    let k : length l ≤ longest_file = omega (arith, length-append l (file_of xs), ap length e) in
     let there = last_there front x (first_slot xs limit) v m k below in
     let p = pack_length_lem x in
     rw e (reads_file xs l limit found r s (omega (arith, ap length e))

@@ -6,8 +6,8 @@ use Prim.Native.Nat.{ℕ, ◌+◌, ◌≤◌}
 use native.Mathlib.Omega.{arith}
 use borrow.Author.Tests.{ltb-false, not-false}
 use lib.Dec.{ltb}
-use lib.ListN.{length, take, drop, set, replicate, length-set, length_append, length-replicate}
-use lib.Seq.{drop_set_lt}
+use lib.ListN.{length, take, drop, set, replicate, length-set, length-append, length-replicate}
+use lib.Seq.{drop-set-lt}
 use Rattle.counts.specs.Choice.{if◌then◌else◌}
 use Rattle.counts.proofs.Choice.{never}
 use Rattle.pack_profile.specs.declared.Profile.{Profile}
@@ -46,7 +46,7 @@ may p room e =
 
 pub laid_length : (p : Profile) → length (laid_pack p) ≡ pack_length p
 laid_length p =
-    length_append (replicate {A = ℕ} (medium_of p.shape) 0) (pack_trailer p) ∙ ap (λ (k : ℕ). k + trailer_length) (length-replicate {A = ℕ} (medium_of p.shape) 0)
+    length-append (replicate {A = ℕ} (medium_of p.shape) 0) (pack_trailer p) ∙ ap (λ (k : ℕ). k + trailer_length) (length-replicate {A = ℕ} (medium_of p.shape) 0)
 
 -- behind the spoiled form the pack is written from its first byte to its last
 pub in_order : (p : Profile) → writes_of p ≡ record { place = medium_of p.shape + form_place; byte = 0 } ∷ from 0 (laid_pack p)
@@ -65,7 +65,7 @@ module _ (p : Profile) where
   all_written l room =
       rw (in_order p)
       (written_first (laid_pack p) (set l (medium_of p.shape + form_place) 0) (pack_length p) (laid_length p) (omega (arith, length-set l (medium_of p.shape + form_place) 0))
-      ∙ ap (λ (r : List ℕ). laid_pack p ++ r) (drop_set_lt (pack_length p) l (medium_of p.shape + form_place) 0 (omega arith)))
+      ∙ ap (λ (r : List ℕ). laid_pack p ++ r) (drop-set-lt (pack_length p) l (medium_of p.shape + form_place) 0 (omega arith)))
 
   after_length : (a : Laid) (ws : List Write) (l : List ℕ) → length (after_writes a ws l) ≡ length l
   after_length Done ws l = length_written ws l

@@ -3,7 +3,7 @@ use mathlib.Core.Path.{◌≡◌, refl, ap, ◌∙◌}
 use mathlib.Core.List.{List, [], ◌∷◌, ◌++◌}
 use Prim.Native.Nat.{ℕ, zero, suc, ◌+◌, ◌≤◌}
 use native.Mathlib.Omega.{arith}
-use lib.ListN.{length, take, drop, set, length_append, length-set}
+use lib.ListN.{length, take, drop, set, length-append, length-set}
 use lib.Seq.{sets, sets-eq}
 use Rattle.pack_lay.specs.Order.{Write, from, written}
 
@@ -28,7 +28,7 @@ from_append (x ∷ a) b at =
 pub from_three : (a b c : List ℕ) (n k : ℕ) → length a ≡ n → length b ≡ k → from 0 (a ++ b ++ c) ≡ from 0 a ++ from n b ++ from (n + k) c
 from_three a b c n k ea eb =
     let to-b : 0 + length a ≡ n = omega arith in
-    let to-c : 0 + length (a ++ b) ≡ n + k = omega (arith, length_append a b) in
+    let to-c : 0 + length (a ++ b) ≡ n + k = omega (arith, length-append a b) in
     from_append (a ++ b) c 0 ∙ rw to-c (ap (λ (ws : List Write). ws ++ from (n + k) c) (from_append a b 0 ∙ ap (λ (j : ℕ). from 0 a ++ from j b) to-b))
 
 pub take_from : (k : ℕ) (bs : List ℕ) (at : ℕ) → take k (from at bs) ≡ from at (take k bs)

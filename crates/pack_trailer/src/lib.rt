@@ -163,8 +163,8 @@ pub fn trailer(p: Profile, distance: u32) -> [u8; LENGTH]
     let times = time_bytes(p.times);
     let last = last_bytes(distance);
     let mut t = [0u8; LENGTH];
-    bytes::copy(&first, &mut t);
-    bytes::copy(&times, &mut t[16..]);
-    bytes::copy(&last, &mut t[38..]);
+    t[..16].copy_from_slice(&first);
+    t[16..38].copy_from_slice(&times);
+    t[38..].copy_from_slice(&last);
     t
 }
