@@ -32,7 +32,7 @@ fn put(buffer: &mut [u8], at: usize, t: &[u8])
     requires { at + length t.now ≤ length buffer.old }
     ensures { buffer.new ≡ take at buffer.old ++ t.now ++ drop (at + length t.now) buffer.old }
 {
-    let n = bytes::copy(t, &mut buffer[at..]);
+    buffer[at..at + t.len()].copy_from_slice(t);
 }
 
 // Whether a pack may be laid into so much room.

@@ -45,6 +45,7 @@ fn sectors(track: u16, size: u16) -> u16
 }
 
 // Configuration by modifier, with the sector size now in force.
+#[tactic(auto, unfolding(crate::specs::Responses::configuration_of))]
 pub(crate) fn configuration(p: Profile, sector: SectorSize, modifier: u8) -> u16
     ensures { result ≡ configuration_of p sector modifier }
 {
