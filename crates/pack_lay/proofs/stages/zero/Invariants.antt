@@ -1,5 +1,5 @@
 -- After i turns the first i bytes are 0 and the rest are as they were.
-use Rattle.std.proofs.Common.{◌≡◌, ◌++◌, ◌-◌, ◌≤◌, length, replicate, drop}
+use Rattle.std.proofs.Common.{◌≡◌, ◌++◌, ◌-◌, ◌≤◌, replicate, drop}
 use Rattle.pack_lay.proofs.stages.zero.Given as goal
 
 abbrev pub invariant-loop-i : goal.invariant-loop-i
