@@ -1,6 +1,6 @@
 -- "Each output line: ..": what is put out event by event is the events' answer lines, and a turn and what it leaves are together the whole part.
 use Rattle.std.proofs.Common.{◌≡◌, ℕ, Bool, true, false, List, [], ◌∷◌, ◌++◌, sym, refl, ap, ◌∙◌, append_assoc, append-nil}
-use Rattle.counts.specs.Choice.{if◌then◌else◌}
+use Rattle.std.specs.Prelude.{if◌then◌else◌}
 use Rattle.event.specs.Numbers.{Numbers}
 use Rattle.chain_step.specs.Run.{lent_after, lent_through}
 use Rattle.bus_reply.specs.Reply.{line_count, line_answer}

@@ -1,6 +1,6 @@
 -- The output that waits. Document 01, Runner: "Each output line: ..", one behind the other.
 use Rattle.std.specs.Prelude.{ℕ, ◌+◌, ◌≤◌, ◌≡◌, List, [], ◌++◌, leb, length, take, drop}
-use Rattle.counts.specs.Choice.{if◌then◌else◌}
+use Rattle.std.specs.Prelude.{if◌then◌else◌}
 use Rattle.bus_text.specs.AnswerLine.{longest_line}
 use Rattle.bus_text.specs.Stored.{over}
 

@@ -1,7 +1,7 @@
 -- "reads event lines from standard input": wherever the input is cut, what is put out is the whole text's answers, none lost and none twice.
 use Rattle.std.proofs.Common.{◌≡◌, ℕ, ◌+◌, ◌-◌, ◌≤◌, Bool, true, false, ◌&&◌, eqb, List, [], ◌∷◌, ◌++◌, length, take, drop, sym, refl, ap, ◌∙◌, append_assoc, append-nil, arith, length-drop, length-take-le, take-take, take-add}
 use mathlib.Core.List.{flatten}
-use Rattle.counts.specs.Choice.{if◌then◌else◌}
+use Rattle.std.specs.Prelude.{if◌then◌else◌}
 use Rattle.counts.proofs.Choice.{either_way}
 use Rattle.chain_record.specs.declared.Chain.{Chain}
 use Rattle.bus_text.specs.TextBytes.{newline}

@@ -1,6 +1,6 @@
 -- The chain and the file that a text leaves are those of `run` over its events: the same `run` that the theorems on chains speak of.
 use Rattle.std.proofs.Common.{◌≡◌, ℕ, Bool, true, false, eqb, List, [], ◌∷◌, ◌++◌, sym, refl, ap, ◌∙◌, append-nil}
-use Rattle.counts.specs.Choice.{if◌then◌else◌}
+use Rattle.std.specs.Prelude.{if◌then◌else◌}
 use Rattle.chain_record.specs.declared.Chain.{Chain}
 use Rattle.event.specs.Numbers.{Numbers}
 use Rattle.chain_step.specs.Run.{Lent, lent, lent_through, run}

@@ -1,6 +1,6 @@
 -- A part run byte by byte: what its first line comes to, and where the run stops. The loop of `feed` follows it.
 use Rattle.std.proofs.Common.{◌≡◌, ℕ, suc, ◌+◌, ◌<◌, Bool, true, false, ◌&&◌, eqb, List, [], ◌∷◌, length, drop, sym, refl, ap, ◌∙◌, arith, length-drop, drop-drop, eqb-true}
-use Rattle.counts.specs.Choice.{if◌then◌else◌}
+use Rattle.std.specs.Prelude.{if◌then◌else◌}
 use Rattle.counts.proofs.Choice.{by_test}
 use Rattle.bus_text.specs.TextBytes.{newline}
 use Rattle.bus_text.specs.declared.Stop.{Stop}

@@ -1,6 +1,6 @@
 -- "Each output line: input line count, answer, value, and .. a sum": what is put out byte by byte is the answer lines of the text's lines.
 use Rattle.std.proofs.Common.{◌≡◌, ℕ, Bool, true, false, eqb, List, [], ◌∷◌, ◌++◌, sym, refl, ap, ◌∙◌, append_assoc, append-nil}
-use Rattle.counts.specs.Choice.{if◌then◌else◌}
+use Rattle.std.specs.Prelude.{if◌then◌else◌}
 use Rattle.chain_record.specs.declared.Chain.{Chain}
 use Rattle.bus_text.specs.TextBytes.{newline}
 use Rattle.bus_text.specs.declared.Line.{Line}

@@ -1,6 +1,6 @@
 -- The same by whole lines, in document 01's words. That it is the same is `answers_by_lines` of proofs/Whole.antt.
 use Rattle.std.specs.Prelude.{ℕ, List, [], ◌∷◌, ◌++◌, ◌==◌}
-use Rattle.counts.specs.Choice.{if◌then◌else◌}
+use Rattle.std.specs.Prelude.{if◌then◌else◌}
 use Rattle.chain_record.specs.declared.Chain.{Chain}
 use Rattle.bus_text.specs.TextBytes.{newline}
 use Rattle.bus_text.specs.Whole.{line_of}

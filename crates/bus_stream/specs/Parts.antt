@@ -1,6 +1,6 @@
 -- A part of the input, and how much of it is used before the output is full.
 use Rattle.std.specs.Prelude.{ℕ, ◌+◌, Bool, ◌&&◌, List, [], ◌∷◌, ◌++◌, length, ◌==◌, nat_lt}
-use Rattle.counts.specs.Choice.{if◌then◌else◌}
+use Rattle.std.specs.Prelude.{if◌then◌else◌}
 use Rattle.bus_text.specs.TextBytes.{newline}
 use Rattle.bus_text.specs.AnswerLine.{longest_line}
 use Rattle.bus_output.specs.Output.{block_length}

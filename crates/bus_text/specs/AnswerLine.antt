@@ -1,6 +1,6 @@
 -- The answer line. Document 01, Runner: "Each output line: input line count, answer, value, and the selected drive's lines as a sum".
 use Rattle.std.specs.Prelude.{ℕ, zero, suc, ◌/◌, ◌%◌, List, [], ◌∷◌, ◌++◌, ltb}
-use Rattle.counts.specs.Choice.{if◌then◌else◌}
+use Rattle.std.specs.Prelude.{if◌then◌else◌}
 use Rattle.bus_text.specs.TextBytes.{newline, space, digit_byte}
 
 -- the decimal digits of a number that has at most k

@@ -1,7 +1,7 @@
 -- What storing bytes in a lent part leaves there.
 use Rattle.std.specs.Prelude.{ℕ, ◌+◌, ◌≤◌, ◌≡◌, List, [], ◌++◌, leb, length, drop}
 use Rattle.std.proofs.lemmas.List.Edits.{sets}
-use Rattle.counts.specs.Choice.{if◌then◌else◌}
+use Rattle.std.specs.Prelude.{if◌then◌else◌}
 use Rattle.bus_text.specs.AnswerLine.{longest_line}
 
 -- text stored at a place of a part, and the place behind it

@@ -1,6 +1,6 @@
 -- Where an event line ends in a part of the input: at the newline byte alone. Document 01, Runner: "reads event lines from standard input".
 use Rattle.std.specs.Prelude.{ℕ, List, [], ◌∷◌, eqb, length}
-use Rattle.counts.specs.Choice.{if◌then◌else◌}
+use Rattle.std.specs.Prelude.{if◌then◌else◌}
 use Rattle.bus_text.specs.TextBytes.{newline}
 use Rattle.bus_text.specs.declared.Scan.{Scan}
 use Rattle.bus_text.specs.declared.Stop.{Stop}

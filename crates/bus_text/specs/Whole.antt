@@ -1,6 +1,6 @@
 -- What a whole event line says. Document 01, answer 19: "line isn't three decimal numbers up to 65,535, one space between ..".
 use Rattle.std.specs.Prelude.{ℕ, ◌+◌, ◌*◌, ◌-◌, List, [], ◌∷◌, Bool, true, false, ◌&&◌, leb, eqb}
-use Rattle.counts.specs.Choice.{if◌then◌else◌}
+use Rattle.std.specs.Prelude.{if◌then◌else◌}
 use Rattle.bus_text.specs.TextBytes.{space, digit_byte, is_digit}
 use Rattle.bus_text.specs.declared.Line.{Line}
 use Rattle.bus_text.specs.declared.Line.TheVariants.{Numbers, Unreadable}

@@ -1,6 +1,6 @@
 -- "The plain word rules are these, given a drive and a word with its parity bit at once": the drive of a slot of the record.
 use Rattle.std.specs.Prelude.{ℕ, ◌+◌, ◌*◌, not, ltb}
-use Rattle.counts.specs.Choice.{if◌then◌else◌}
+use Rattle.std.specs.Prelude.{if◌then◌else◌}
 use Rattle.counts.specs.Slots.{slot_b}
 use Rattle.pack_profile.specs.declared.Profile.{Profile}
 use Rattle.drive_record.specs.declared.State.{State}
@@ -44,12 +44,12 @@ sent_of c p s slot n = record { chain = state_in c slot (plain_of p s n).state; 
 unfoldable pub word_at : Chain → ℕ → ℕ → Coded
 word_at c slot n =
     if not (chain_sound_b c) then refused_word c Malformed
-    else if not (fitted_b (slot_pack c.packs slot)) then refused_word c Inapplicable
-    else sent_of c (slot_pack c.packs slot).profile (slot_state c.states slot) slot n
+    else (if not (fitted_b (slot_pack c.packs slot)) then refused_word c Inapplicable
+    else sent_of c (slot_pack c.packs slot).profile (slot_state c.states slot) slot n)
 
 -- "21 operand out of range": a slot is 1 to 7, a word with its parity seventeen bits
 unfoldable pub slot_word : Chain → ℕ → ℕ → Coded
 slot_word c slot n =
     if not (slot_b slot) then refused_word c OutOfRange
-    else if ltb largest n then refused_word c OutOfRange
-    else word_at c slot n
+    else (if ltb largest n then refused_word c OutOfRange
+    else word_at c slot n)

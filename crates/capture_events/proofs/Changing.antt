@@ -1,6 +1,6 @@
 -- Lines that change: the first that differs, taken to its new level; and how many do.
 use Rattle.std.proofs.Common.{◌≡◌, ℕ, ◌+◌, Bool, true, false, eqb, [], ◌∷◌, length, refl, ap, arith, length-append, eq-eqb, ne_eqb}
-use Rattle.counts.specs.Choice.{if◌then◌else◌}
+use Rattle.std.specs.Prelude.{if◌then◌else◌}
 use Rattle.lines.specs.declared.Lines.{Lines}
 use Rattle.lines.specs.Lines.{with_select, with_heads, with_readgate, with_writegate, with_command, with_request}
 use Rattle.event.specs.Numbers.{Numbers}

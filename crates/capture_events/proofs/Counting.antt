@@ -1,7 +1,7 @@
 -- A capture's events counted sample by sample.
 use Rattle.std.proofs.Common.{◌≡◌, ℕ, ◌+◌, ◌-◌, ◌<◌, ◌≤◌, Bool, List, length, drop, sym, ap, ◌∙◌, length-append, le-leb}
 use borrow.Author.Tests.{lt-leb}
-use Rattle.counts.specs.Choice.{if◌then◌else◌}
+use Rattle.std.specs.Prelude.{if◌then◌else◌}
 use Rattle.lines.specs.declared.Lines.{Lines}
 use Rattle.capture_samples.specs.declared.Sample.{Sample}
 use Rattle.capture_samples.specs.Samples.{sample_length, sample_of}

@@ -1,6 +1,6 @@
 -- The events that are still to come, once the next is known.
 use Rattle.std.specs.Prelude.{◌≡◌, ℕ, ◌+◌, ◌%◌, ◌^◌, List, [], ◌∷◌, drop, ◌==◌}
-use Rattle.counts.specs.Choice.{if◌then◌else◌}
+use Rattle.std.specs.Prelude.{if◌then◌else◌}
 use Rattle.lines.specs.declared.Lines.{Lines}
 use Rattle.lines.specs.Lines.{with_select, with_heads, with_writegate, with_readgate, with_command, with_request}
 use Rattle.event.specs.Numbers.{Numbers}
@@ -17,12 +17,12 @@ with_lines lines at = record { stamp = at.stamp; lines = lines }
 abbrev pub reached_by : Numbers → Sample → Sample
 reached_by n at =
     if n.kind == 0 then with_lines (with_select n.a at.lines) at
-    else if n.kind == 1 then with_lines (with_heads (record { 0 = n.a }) at.lines) at
-    else if n.kind == 2 then with_lines (with_writegate n.a at.lines) at
-    else if n.kind == 3 then with_lines (with_readgate n.a at.lines) at
-    else if n.kind == 4 then with_lines (with_command n.a at.lines) at
-    else if n.kind == 5 then with_lines (with_request n.a at.lines) at
-    else record { stamp = (at.stamp + n.a) % 2 ^ 32; lines = at.lines }
+    else (if n.kind == 1 then with_lines (with_heads (record { 0 = n.a }) at.lines) at
+    else (if n.kind == 2 then with_lines (with_writegate n.a at.lines) at
+    else (if n.kind == 3 then with_lines (with_readgate n.a at.lines) at
+    else (if n.kind == 4 then with_lines (with_command n.a at.lines) at
+    else (if n.kind == 5 then with_lines (with_request n.a at.lines) at
+    else record { stamp = (at.stamp + n.a) % 2 ^ 32; lines = at.lines })))))
 
 -- the first of the events, and what it reaches
 abbrev pub first_from : List Numbers → Sample → Ahead

@@ -1,6 +1,6 @@
 -- How many events there are.
 use Rattle.std.specs.Prelude.{ℕ, ◌==◌, nat_le}
-use Rattle.counts.specs.Choice.{if◌then◌else◌}
+use Rattle.std.specs.Prelude.{if◌then◌else◌}
 
 -- one event for a line whose level differs
 abbrev pub differs : ℕ → ℕ → ℕ

@@ -1,6 +1,6 @@
 -- A capture's events. Request 2: "The time between two samples .. split into passing events", "Lines changing in one sample are applied in a fixed order".
 use Rattle.std.specs.Prelude.{ℕ, zero, suc, ◌+◌, ◌-◌, ◌/◌, ◌%◌, ◌^◌, List, [], ◌∷◌, ◌++◌, ◌==◌}
-use Rattle.counts.specs.Choice.{if◌then◌else◌}
+use Rattle.std.specs.Prelude.{if◌then◌else◌}
 use Rattle.lines.specs.declared.Lines.{Lines}
 use Rattle.event.specs.Numbers.{Numbers}
 use Rattle.capture_samples.specs.declared.Sample.{Sample}

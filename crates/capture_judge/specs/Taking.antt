@@ -1,6 +1,6 @@
 -- What becomes of a capture, before anything is done. Request 2: "40 capture not a whole number of six-byte samples or a sample with one of bits 11 to 15 set, ahead of everything".
 use Rattle.std.specs.Prelude.{ℕ, ◌/◌, List, leb, length}
-use Rattle.counts.specs.Choice.{if◌then◌else◌}
+use Rattle.std.specs.Prelude.{if◌then◌else◌}
 use Rattle.lines.specs.declared.Lines.{Lines}
 use Rattle.capture_samples.specs.Samples.{capture_b, good_bytes}
 use Rattle.capture_events.specs.Events.{capture_events}

@@ -1,7 +1,7 @@
 -- A capture's samples. Request 2: "a four-byte microsecond stamp that runs over at 2^32, then two bytes of line levels, high byte first".
 use Rattle.std.specs.Prelude.{ℕ, zero, suc, ◌+◌, ◌/◌, ◌%◌, Bool, List, [], ◌∷◌, eqb, ltb, length, drop}
 use Rattle.counts.specs.Bytes.{two, four, bit}
-use Rattle.counts.specs.Choice.{if◌then◌else◌}
+use Rattle.std.specs.Prelude.{if◌then◌else◌}
 use Rattle.lines.specs.declared.Lines.{Lines}
 use Rattle.capture_samples.specs.declared.Sample.{Sample}
 

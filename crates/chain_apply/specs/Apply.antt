@@ -1,7 +1,7 @@
 -- A decision put into the record.
 use Rattle.std.specs.Prelude.{ℕ, ◌-◌, List, set}
 use Rattle.counts.specs.declared.Micros.{Micros}
-use Rattle.counts.specs.Choice.{if◌then◌else◌}
+use Rattle.std.specs.Prelude.{if◌then◌else◌}
 use Rattle.counts.specs.Slots.{slot_b, map_with}
 use Rattle.pack_read.specs.declared.Pack.{Pack}
 use Rattle.drive_record.specs.declared.State.{State}

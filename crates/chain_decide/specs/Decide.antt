@@ -1,6 +1,6 @@
 -- What an event decides.
 use Rattle.std.specs.Prelude.{ℕ, eqb}
-use Rattle.counts.specs.Choice.{if◌then◌else◌}
+use Rattle.std.specs.Prelude.{if◌then◌else◌}
 use Rattle.event.specs.declared.Event.{Event}
 use Rattle.event.specs.declared.Event.TheVariants.{Select, Heads, WriteGate, ReadGate, Data, Request, Pass, Cell, Condition}
 use Rattle.chain_decision.specs.declared.Decision.{Decision}

@@ -1,6 +1,6 @@
 -- What the selected drive shows.
 use Rattle.std.specs.Prelude.{ℕ, not}
-use Rattle.counts.specs.Choice.{if◌then◌else◌}
+use Rattle.std.specs.Prelude.{if◌then◌else◌}
 use Rattle.drive_cable.specs.Sum.{sum_of}
 use Rattle.chain_record.specs.declared.Chain.{Chain}
 use Rattle.chain_record.specs.Record.{look_of}

@@ -1,6 +1,6 @@
 -- Decisions: the lines taken, the states that change, the word carried out, and what is answered or touched.
 use Rattle.std.specs.Prelude.{Bool}
-use Rattle.counts.specs.Choice.{if◌then◌else◌}
+use Rattle.std.specs.Prelude.{if◌then◌else◌}
 use Rattle.drive_record.specs.declared.State.{State}
 use Rattle.drive_record.specs.declared.Outcome.{Outcome}
 use Rattle.drive_record.specs.declared.Outcome.TheVariants as outcome

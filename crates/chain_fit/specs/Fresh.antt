@@ -1,6 +1,6 @@
 -- The chain of a file that reads, fresh.
 use Rattle.std.specs.Prelude.{ℕ, List, ltb, length, replicate}
-use Rattle.counts.specs.Choice.{if◌then◌else◌}
+use Rattle.std.specs.Prelude.{if◌then◌else◌}
 use Rattle.counts.specs.Slots.{map_with}
 use Rattle.pack_read.specs.declared.Pack.{Pack}
 use Rattle.pack_read.specs.declared.read.Packs.{Packs}

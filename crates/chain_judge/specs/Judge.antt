@@ -1,6 +1,6 @@
 -- "Refusals 19 to 25 change nothing and are tried in that order": what three numbers come to on any record and any length of file.
 use Rattle.std.specs.Prelude.{ℕ, not, eqb}
-use Rattle.counts.specs.Choice.{if◌then◌else◌}
+use Rattle.std.specs.Prelude.{if◌then◌else◌}
 use Rattle.event.specs.declared.Event.{Event}
 use Rattle.event.specs.declared.Decoded.{Decoded}
 use Rattle.event.specs.declared.Decoded.TheVariants.{Is, Unknown, Range}
@@ -16,8 +16,8 @@ use Rattle.chain_decide.specs.Decide.{decide_of}
 unfoldable pub allowed_of : Chain → ℕ → Event → Decision
 allowed_of c long e =
     if not (chain_sound_b c) then say_of c.lines Malformed
-    else if not (eqb long c.length.0) then say_of c.lines WrongLength
-    else decide_of c e
+    else (if not (eqb long c.length.0) then say_of c.lines WrongLength
+    else decide_of c e)
 
 -- "20 unknown kind", "21 operand out of range"
 abbrev pub decoded_of : Chain → ℕ → Decoded → Decision

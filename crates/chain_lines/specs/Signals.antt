@@ -1,7 +1,7 @@
 -- Kinds 1 to 5, at the selected drive.
 use Rattle.std.specs.Prelude.{ℕ, Bool, false, not, eqb}
 use Rattle.counts.specs.declared.Head.{Head}
-use Rattle.counts.specs.Choice.{if◌then◌else◌}
+use Rattle.std.specs.Prelude.{if◌then◌else◌}
 use Rattle.handshake.specs.declared.Fallen.{Fallen}
 use Rattle.handshake.specs.declared.Fallen.TheVariants.{Keep, Carry}
 use Rattle.handshake.specs.Edges.{fall_of}
@@ -21,8 +21,8 @@ use Rattle.chain_decision.specs.Decision.{heard_of, ruled_of, ruled_done}
 unfoldable pub signal_of : Seen → Lines → Lines → Bool → Sent → Ruled → Decision
 signal_of d l m same word rule =
     if same then heard_of l d.selected
-    else if not d.selected then heard_of m false
-    else ruled_of m word rule
+    else (if not d.selected then heard_of m false
+    else ruled_of m word rule)
 
 -- kind 1
 abbrev pub heads_event : Seen → Lines → Head → Decision

@@ -1,7 +1,7 @@
 -- Kind 7.
 use Rattle.std.specs.Prelude.{ℕ, not, leb, eqb}
 use Rattle.counts.specs.declared.Position.{Position}
-use Rattle.counts.specs.Choice.{if◌then◌else◌}
+use Rattle.std.specs.Prelude.{if◌then◌else◌}
 use Rattle.event.specs.declared.Answer.TheVariants.{Unselected, Inhibited, PastTrack}
 use Rattle.lines.specs.declared.Lines.{Lines}
 use Rattle.chain_decision.specs.declared.Change.TheVariants as change
@@ -29,7 +29,7 @@ touching l x = record { lines = l; change = change.Nothing; word = sent.Nothing;
 unfoldable pub cell_event : Seen → Lines → Position → ℕ → Decision
 cell_event d l position byte =
     if not d.selected then say_of l Unselected
-    else if leb d.profile.shape.track.0 position.0 then say_of l PastTrack
-    else if eqb d.state.body.writing 1 then touching l (deed.Write (cell_spot d l position) byte)
-    else if eqb d.state.body.reading 1 then touching l (deed.Read (cell_spot d l position))
-    else say_of l Inhibited
+    else (if leb d.profile.shape.track.0 position.0 then say_of l PastTrack
+    else (if eqb d.state.body.writing 1 then touching l (deed.Write (cell_spot d l position) byte)
+    else (if eqb d.state.body.reading 1 then touching l (deed.Read (cell_spot d l position))
+    else say_of l Inhibited)))

@@ -1,6 +1,6 @@
 -- Kind 8.
 use Rattle.std.specs.Prelude.{ℕ, Bool, ◌&&◌, not, eqb}
-use Rattle.counts.specs.Choice.{if◌then◌else◌}
+use Rattle.std.specs.Prelude.{if◌then◌else◌}
 use Rattle.pack_profile.specs.General.{removable}
 use Rattle.pack_read.specs.declared.Pack.{Pack}
 use Rattle.drive_record.specs.declared.State.{State}
@@ -23,5 +23,5 @@ fixed_change p which = eqb which 3 && not (removable p.profile.general)
 unfoldable pub condition_at : Lines → Pack → State → ℕ → ℕ → Decision
 condition_at l p s slot which =
     if not (fitted_b p) then say_of l Inapplicable
-    else if fixed_change p which then say_of l Inapplicable
-    else record { lines = l; change = change.One slot (state_of (faults.condition_of which s.body) s.transfer); word = sent.Nothing; deed = deed.Say Taken }
+    else (if fixed_change p which then say_of l Inapplicable
+    else record { lines = l; change = change.One slot (state_of (faults.condition_of which s.body) s.transfer); word = sent.Nothing; deed = deed.Say Taken })

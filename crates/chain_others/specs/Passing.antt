@@ -1,7 +1,7 @@
 -- Kind 6.
 use Rattle.std.specs.Prelude.{◌&&◌}
 use Rattle.counts.specs.declared.Micros.{Micros}
-use Rattle.counts.specs.Choice.{if◌then◌else◌}
+use Rattle.std.specs.Prelude.{if◌then◌else◌}
 use Rattle.handshake.specs.Edges.{late_b}
 use Rattle.event.specs.declared.Answer.TheVariants.{Taken, Fault}
 use Rattle.lines.specs.declared.Lines.{Lines}

@@ -1,6 +1,6 @@
 -- The slots of a chain, and the selected drive.
 use Rattle.std.specs.Prelude.{ℕ, ◌-◌, false, List, get_or}
-use Rattle.counts.specs.Choice.{if◌then◌else◌}
+use Rattle.std.specs.Prelude.{if◌then◌else◌}
 use Rattle.counts.specs.Slots.{slot_b}
 use Rattle.pack_profile.specs.Profile.{blank_profile}
 use Rattle.pack_read.specs.declared.Pack.{Pack}

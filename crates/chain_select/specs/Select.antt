@@ -1,6 +1,6 @@
 -- Kind 0. "Select changes: the drive left .. The drive entered takes the head lines .. A line already high is no rise."
 use Rattle.std.specs.Prelude.{ℕ, false}
-use Rattle.counts.specs.Choice.{if◌then◌else◌}
+use Rattle.std.specs.Prelude.{if◌then◌else◌}
 use Rattle.drive_record.specs.declared.Outcome.{Outcome}
 use Rattle.drive_record.specs.declared.Outcome.TheVariants as outcome
 use Rattle.drive_record.specs.declared.Ruled.{Ruled}
@@ -43,5 +43,5 @@ moved_of d l m p s =
     if fitted_b p then
     (if d.selected then both_of l.select (left_of d.state) (met_of p.profile l.heads s) m
     else ruled_of m Nothing (met_of p.profile l.heads s))
-    else if d.selected then left_alone l.select (left_of d.state) m
-    else heard_of m false
+    else (if d.selected then left_alone l.select (left_of d.state) m
+    else heard_of m false)

@@ -11,7 +11,7 @@ use lib.Dec.{ltb, eqb}
 use lib.ListN.{get_or}
 use Rattle.counts.specs.declared.Place.{Place}
 use Rattle.counts.specs.declared.Position.{Position}
-use Rattle.counts.specs.Choice.{if◌then◌else◌}
+use Rattle.std.specs.Prelude.{if◌then◌else◌}
 use Rattle.counts.specs.Slots.{slot_b, all_with}
 use Rattle.counts.proofs.Choice.{guarded}
 use Rattle.counts.proofs.Slots.{all_at}
@@ -58,9 +58,9 @@ pub record InFile (slot len : ℕ) (p : Pack) : Type 0 where
 abbrev placed_by : Bool → Bool → Bool → Bool → Place → ℕ → Placed
 placed_by a b long ok at end =
     if a then record { ok = false; end = at }
-    else if not b then record { ok = true; end = at }
-    else if long then record { ok = false; end = at }
-    else record { ok = ok; end = record { 0 = end } }
+    else (if not b then record { ok = true; end = at }
+    else (if long then record { ok = false; end = at }
+    else record { ok = ok; end = record { 0 = end } }))
 
 goes_on : (a b long ok : Bool) (at : Place) (end : ℕ) → (ok ≡ true → at.0 ≤ end) → (placed_by a b long ok at end).ok ≡ true
     → at.0 ≤ (placed_by a b long ok at end).end.0

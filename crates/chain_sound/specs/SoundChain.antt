@@ -1,7 +1,7 @@
 -- "A record is malformed when ..", said of one that is not.
 use Rattle.std.specs.Prelude.{ℕ, ◌+◌, Bool, true, false, not, List, [], ◌∷◌, ltb, eqb}
 use Rattle.counts.specs.declared.Place.{Place}
-use Rattle.counts.specs.Choice.{if◌then◌else◌}
+use Rattle.std.specs.Prelude.{if◌then◌else◌}
 use Rattle.counts.specs.Slots.{all_with}
 use Rattle.counts.specs.Tests.{all_of}
 use Rattle.pack_profile.specs.Profile.{medium_of}
@@ -32,9 +32,9 @@ pack_end p = p.place.0 + medium_of p.profile.shape + trailer_length
 unfoldable pub placed_of : Pack → ℕ → Place → Placed
 placed_of p slot at =
     if ltb 1 p.fitted then record { ok = false; end = at }
-    else if not (fitted_b p) then record { ok = true; end = at }
-    else if ltb longest_file (pack_end p) then record { ok = false; end = at }  -- "over 2,147,483,647 bytes": no file is so long
-    else record { ok = pack_b p slot at; end = record { 0 = pack_end p } }
+    else (if not (fitted_b p) then record { ok = true; end = at }
+    else (if ltb longest_file (pack_end p) then record { ok = false; end = at }  -- "over 2,147,483,647 bytes": no file is so long
+    else record { ok = pack_b p slot at; end = record { 0 = pack_end p } }))
 
 abbrev pub file_start : Place
 file_start = record { 0 = 0 }
@@ -52,5 +52,5 @@ drive_b l p s = if not (fitted_b p) then true else unit.drive_sound_b p.profile 
 unfoldable pub chain_sound_b : Chain → Bool
 chain_sound_b c =
     if not (lines_b c.lines) then false
-    else if not (places_b c.packs 1 file_start c.length) then false
-    else all_with (drive_b c.lines) c.packs c.states
+    else (if not (places_b c.packs 1 file_start c.length) then false
+    else all_with (drive_b c.lines) c.packs c.states)

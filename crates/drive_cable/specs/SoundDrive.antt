@@ -1,6 +1,6 @@
 -- "A record is malformed when ..": the clauses on one drive, said of a record that is not.
 use Rattle.std.specs.Prelude.{Bool, false, ◌||◌, not, List, [], ◌∷◌, eqb}
-use Rattle.counts.specs.Choice.{if◌then◌else◌}
+use Rattle.std.specs.Prelude.{if◌then◌else◌}
 use Rattle.counts.specs.Tests.{all_of}
 use Rattle.pack_profile.specs.declared.Profile.{Profile}
 use Rattle.handshake.specs.SoundTransfer.{none_b, left_b}
@@ -53,5 +53,5 @@ unselected_b s = all_of (unselected_tests s)
 unfoldable pub drive_sound_b : Profile → Lines → Bool → State → Bool
 drive_sound_b p l selected s =
     if not (limits_b p s.body) then false
-    else if selected then selected_b p l s
-    else unselected_b s
+    else (if selected then selected_b p l s
+    else unselected_b s)

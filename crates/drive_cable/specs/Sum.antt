@@ -1,6 +1,6 @@
 -- "the selected drive's lines as a sum"
 use Rattle.std.specs.Prelude.{ℕ, ◌+◌, ◌≤◌, ◌≡◌, Bool, eqb}
-use Rattle.counts.specs.Choice.{if◌then◌else◌}
+use Rattle.std.specs.Prelude.{if◌then◌else◌}
 use Rattle.handshake.specs.Transfer.{status_line}
 use Rattle.drive_record.specs.declared.State.{State}
 use Rattle.drive_record.specs.Status.{attention_b, ready_b, complete_b}

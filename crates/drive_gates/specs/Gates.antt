@@ -1,6 +1,6 @@
 -- The gates' rules, each list in its order.
 use Rattle.std.specs.Prelude.{ℕ, ◌^◌, Bool, not, ltb, eqb, List, [], ◌∷◌}
-use Rattle.counts.specs.Choice.{if◌then◌else◌}
+use Rattle.std.specs.Prelude.{if◌then◌else◌}
 use Rattle.counts.specs.Tests.{all_of}
 use Rattle.pack_profile.specs.declared.Profile.{Profile}
 use Rattle.drive_record.specs.declared.Body.{Body}
@@ -30,18 +30,18 @@ faulted_by value b s = ruled Fault (state_of (latch_of value b) s.transfer)
 unfoldable pub write_rises : Profile → ℕ → State → Ruled
 write_rises p readgate s =
     if eqb readgate 1 then faulted_by (2 ^ 6) (with_reading 0 s.body) s  -- "read gate on: bit 6, reading ends"
-    else if attention_b s.body then ruled Inhibited s  -- "Attention up: inhibited"
-    else if not (eqb s.body.arm.offset 0) then faulted_by (2 ^ 3) s.body s  -- "Offset not 0: bit 3"
-    else if not (usable_b p s) then faulted_by (2 ^ 1) s.body s  -- "Not ready, .. head not present"
-    else if eqb p.protected 1 then faulted_by (2 ^ 1) s.body s  -- "or write protected: bit 1"
-    else ruled Done (state_of (with_writing 1 s.body) s.transfer)  -- "Else writing begins"
+    else (if attention_b s.body then ruled Inhibited s  -- "Attention up: inhibited"
+    else (if not (eqb s.body.arm.offset 0) then faulted_by (2 ^ 3) s.body s  -- "Offset not 0: bit 3"
+    else (if not (usable_b p s) then faulted_by (2 ^ 1) s.body s  -- "Not ready, .. head not present"
+    else (if eqb p.protected 1 then faulted_by (2 ^ 1) s.body s  -- "or write protected: bit 1"
+    else ruled Done (state_of (with_writing 1 s.body) s.transfer)))))  -- "Else writing begins"
 
 -- "Read gate rising"
 unfoldable pub read_rises : Profile → ℕ → State → Ruled
 read_rises p writegate s =
     if eqb writegate 1 then faulted_by (2 ^ 6) s.body s  -- "write gate on: bit 6"
-    else if not (usable_b p s) then ruled Inhibited s  -- "Not ready, not complete, lost, or head not present: inhibited"
-    else ruled Done (state_of (with_reading 1 s.body) s.transfer)  -- "Else reading begins"
+    else (if not (usable_b p s) then ruled Inhibited s  -- "Not ready, not complete, lost, or head not present: inhibited"
+    else ruled Done (state_of (with_reading 1 s.body) s.transfer))  -- "Else reading begins"
 
 -- "A gate's fall ends its own."
 abbrev pub write_falls : State → State

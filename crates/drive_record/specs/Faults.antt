@@ -1,7 +1,7 @@
 -- Latching, the conditions of kind 8, and a transfer dropped.
 use Rattle.std.specs.Prelude.{ℕ, ◌^◌, eqb}
 use Rattle.std.specs.Int.Bits.{bit_or}
-use Rattle.counts.specs.Choice.{if◌then◌else◌}
+use Rattle.std.specs.Prelude.{if◌then◌else◌}
 use Rattle.drive_record.specs.declared.Body.{Body}
 use Rattle.handshake.specs.declared.Held.{Held}
 use Rattle.handshake.specs.declared.Held.TheVariants.{Keep, Drop}
@@ -26,9 +26,9 @@ lose_position b = with_arm (record { cylinder = b.arm.cylinder; offset = b.arm.o
 unfoldable pub condition_of : ℕ → Body → Body
 condition_of which b =
     if eqb which 1 then with_standing 1 (latch_bit 1 b)  -- "Condition 1 latches bit 1"; request 3: it "now begins a fault"
-    else if eqb which 2 then with_reading 0 (lose_position (latch_bit 4 b))  -- "2 latches bit 4, loses the position and ends reading"
-    else if eqb which 3 then latch_bit 0 b  -- "3 latches bit 0"
-    else with_standing 0 b  -- request 3: "a new condition 4 ends it"
+    else (if eqb which 2 then with_reading 0 (lose_position (latch_bit 4 b))  -- "2 latches bit 4, loses the position and ends reading"
+    else (if eqb which 3 then latch_bit 0 b  -- "3 latches bit 0"
+    else with_standing 0 b))  -- request 3: "a new condition 4 ends it"
 
 -- "bit 6, dropped. Dropping lowers acknowledge."
 abbrev pub dropped_of : Body → State

@@ -1,7 +1,7 @@
 -- What a drive tells of itself.
 use Rattle.std.specs.Prelude.{ℕ, ◌^◌, Bool, ◌&&◌, not, eqb}
 use Rattle.std.specs.Int.Bits.{bit_or}
-use Rattle.counts.specs.Choice.{if◌then◌else◌}
+use Rattle.std.specs.Prelude.{if◌then◌else◌}
 use Rattle.pack_profile.specs.declared.Profile.{Profile}
 use Rattle.pack_profile.specs.General.{removable}
 use Rattle.handshake.specs.Transfer.{open_b}
@@ -27,7 +27,7 @@ complete_b s = not (open_b s.transfer) && calm_b s.body
 
 -- "13 or 12 write protected (removable or fixed)"
 unfoldable pub protected_bit : Profile → ℕ
-protected_bit p = if not (eqb p.protected 1) then 0 else if removable p.general then 2 ^ 13 else 2 ^ 12
+protected_bit p = if not (eqb p.protected 1) then 0 else (if removable p.general then 2 ^ 13 else 2 ^ 12)
 
 -- "9 motor stopped. A starting motor still counts as stopped in bit 9."
 unfoldable pub stopped_bit : Body → ℕ

@@ -1,6 +1,6 @@
 -- "Select changes": the drive left.
 use Rattle.std.specs.Prelude.{◌||◌, eqb}
-use Rattle.counts.specs.Choice.{if◌then◌else◌}
+use Rattle.std.specs.Prelude.{if◌then◌else◌}
 use Rattle.handshake.specs.Transfer.{open_b}
 use Rattle.drive_record.specs.declared.State.{State}
 use Rattle.drive_record.specs.declared.Outcome.TheVariants.{Done, Fault}

@@ -1,7 +1,7 @@
 -- "Head change (house)", and the head lines met.
 use Rattle.std.specs.Prelude.{ltb, eqb}
 use Rattle.counts.specs.declared.Head.{Head}
-use Rattle.counts.specs.Choice.{if◌then◌else◌}
+use Rattle.std.specs.Prelude.{if◌then◌else◌}
 use Rattle.pack_profile.specs.declared.Profile.{Profile}
 use Rattle.pack_profile.specs.General.{at_once}
 use Rattle.drive_record.specs.declared.Body.{Body}

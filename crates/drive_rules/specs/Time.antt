@@ -1,7 +1,7 @@
 -- "Microseconds passing lower both timers of every drive, to 0 at least."
 use Rattle.std.specs.Prelude.{ℕ, ◌-◌, ◌&&◌, ltb, leb, eqb}
 use Rattle.counts.specs.declared.Micros.{Micros}
-use Rattle.counts.specs.Choice.{if◌then◌else◌}
+use Rattle.std.specs.Prelude.{if◌then◌else◌}
 use Rattle.handshake.specs.Edges.{wait_of}
 use Rattle.drive_record.specs.declared.Body.{Body}
 use Rattle.drive_record.specs.declared.State.{State}

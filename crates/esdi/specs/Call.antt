@@ -3,7 +3,7 @@ use Rattle.std.specs.Prelude.{ℕ, ◌+◌, ◌*◌}
 use Rattle.event.specs.declared.Answer.{Answer}
 use Rattle.event.specs.declared.Answer.TheVariants.{Malformed}
 use Rattle.event.specs.Answer.{answer_number, answer_value}
-use Rattle.counts.specs.Choice.{if◌then◌else◌}
+use Rattle.std.specs.Prelude.{if◌then◌else◌}
 use Rattle.chain_record.specs.declared.Chain.{Chain}
 use Rattle.chain_sound.specs.SoundChain.{chain_sound_b}
 use Rattle.chain_decide.specs.Shown.{line_sum}

@@ -1,7 +1,7 @@
 -- "Handshake (000, 5.1.5 to 5.2.4)": what a request edge, and time, do to a transfer.
 use Rattle.std.specs.Prelude.{ℕ, ◌+◌, ◌*◌, ◌%◌, Bool, ◌&&◌, ◌||◌, not, ltb, eqb}
 use Rattle.counts.specs.declared.Micros.{Micros}
-use Rattle.counts.specs.Choice.{if◌then◌else◌}
+use Rattle.std.specs.Prelude.{if◌then◌else◌}
 use Rattle.handshake.specs.declared.Transfer.{Transfer}
 use Rattle.handshake.specs.declared.Held.{Held}
 use Rattle.handshake.specs.declared.Held.TheVariants.{Keep, Drop}
@@ -43,9 +43,9 @@ put_out_of t = record {
 unfoldable pub rise_of : Bool → Bool → ℕ → Transfer → Held
 rise_of gated calm level t =
     if gated then Drop  -- "either gate on: bit 6, any open transfer dropped, no acknowledge"
-    else if not (open_b t || calm) then Drop  -- "Else no transfer open and command complete false: bit 6, no acknowledge"
-    else if eqb t.way responding then Keep (put_out_of t)  -- "or the next response bit is put out"
-    else Keep (taken_of level t)  -- "Else the data line is taken"
+    else (if not (open_b t || calm) then Drop  -- "Else no transfer open and command complete false: bit 6, no acknowledge"
+    else (if eqb t.way responding then Keep (put_out_of t)  -- "or the next response bit is put out"
+    else Keep (taken_of level t)))  -- "Else the data line is taken"
 
 abbrev pub lowered_of : Transfer → Transfer
 lowered_of t = record { waiting = record { 0 = 0 }; bits = t.bits; response = t.response; way = t.way; count = t.count; acknowledge = 0 }
@@ -54,9 +54,9 @@ lowered_of t = record { waiting = record { 0 = 0 }; bits = t.bits; response = t.
 unfoldable pub fall_of : Transfer → Fallen
 fall_of t =
     if not (eqb t.acknowledge 1) then fallen.Keep t
-    else if ltb t.count word_bits then fallen.Keep (lowered_of t)  -- "it falls"
-    else if eqb t.way taking then fallen.Carry t.bits  -- "after the 17th bit in, the word is carried out"
-    else fallen.Keep no_transfer  -- "after the 17th bit out the transfer ends"
+    else (if ltb t.count word_bits then fallen.Keep (lowered_of t)  -- "it falls"
+    else (if eqb t.way taking then fallen.Carry t.bits  -- "after the 17th bit in, the word is carried out"
+    else fallen.Keep no_transfer))  -- "after the 17th bit out the transfer ends"
 
 abbrev pub aged_by : Micros → Transfer → Transfer
 aged_by us t = record {
@@ -75,5 +75,5 @@ late_b us t = open_b t && ltb patience (t.waiting.0 + us.0)
 unfoldable pub wait_of : Micros → Transfer → Held
 wait_of us t =
     if late_b us t then Drop  -- "bit 6, dropped"
-    else if open_b t then Keep (aged_by us t)
-    else Keep t
+    else (if open_b t then Keep (aged_by us t)
+    else Keep t)

@@ -1,6 +1,6 @@
 -- What the handshake leaves: the clauses on transfers of "A record is malformed when ..".
 use Rattle.std.specs.Prelude.{ℕ, ◌+◌, ◌/◌, ◌^◌, Bool, false, ◌&&◌, List, [], ◌∷◌, leb, eqb}
-use Rattle.counts.specs.Choice.{if◌then◌else◌}
+use Rattle.std.specs.Prelude.{if◌then◌else◌}
 use Rattle.counts.specs.Tests.{all_of}
 use Rattle.handshake.specs.declared.Transfer.{Transfer}
 use Rattle.handshake.specs.Transfer.{taking, responding, word_bits, largest, patience}
@@ -48,6 +48,6 @@ responding_b request t = all_of (responding_tests request t)
 unfoldable pub left_b : ℕ → Transfer → Bool
 left_b request t =
     if eqb t.way 0 then idle_b t
-    else if eqb t.way taking then taking_b request t
-    else if eqb t.way responding then responding_b request t
-    else false
+    else (if eqb t.way taking then taking_b request t
+    else (if eqb t.way responding then responding_b request t
+    else false))

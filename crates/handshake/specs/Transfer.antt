@@ -1,6 +1,6 @@
 -- A transfer: none, bits being taken, or a response being given.
 use Rattle.std.specs.Prelude.{ℕ, ◌-◌, ◌/◌, ◌%◌, ◌^◌, Bool, ◌&&◌, not, leb, eqb}
-use Rattle.counts.specs.Choice.{if◌then◌else◌}
+use Rattle.std.specs.Prelude.{if◌then◌else◌}
 use Rattle.handshake.specs.declared.Transfer.{Transfer}
 
 -- the codes of `way`

@@ -1,6 +1,6 @@
 -- The bench, over what is exported: "as if those waits had passed and the whole word had then been handed to the plain word rules at once".
 use Rattle.std.specs.Prelude.{ℕ, ◌+◌, ◌≤◌, ◌≡◌, List, [], ◌∷◌}
-use Rattle.counts.specs.Choice.{if◌then◌else◌}
+use Rattle.std.specs.Prelude.{if◌then◌else◌}
 use Rattle.lines.specs.Lines.{with_command}
 use Rattle.drive_record.specs.Status.{complete_b}
 use Rattle.word_rules.specs.declared.Told.{Told}

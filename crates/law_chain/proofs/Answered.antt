@@ -7,7 +7,7 @@ use native.Mathlib.Omega.{arith}
 use borrow.Author.Tests.{eq-eqb}
 use lib.ListN.{length}
 use Rattle.counts.specs.Bytes.{Bytes}
-use Rattle.counts.specs.Choice.{if◌then◌else◌}
+use Rattle.std.specs.Prelude.{if◌then◌else◌}
 use Rattle.pack_read.specs.declared.read.Reading.TheVariants.{Whole}
 use Rattle.pack_read.specs.Read.{read_all}
 use Rattle.handshake.specs.Edges.{late_b}

@@ -9,7 +9,7 @@ use borrow.Author.Tests.{eqb-true, not-false}
 use lib.Dec.{eqb}
 use lib.ListN.{length}
 use Rattle.counts.specs.declared.Position.{Position}
-use Rattle.counts.specs.Choice.{if◌then◌else◌}
+use Rattle.std.specs.Prelude.{if◌then◌else◌}
 use Rattle.counts.proofs.Choice.{by_test, either_way, never}
 use Rattle.drive_record.specs.declared.State.{State}
 use Rattle.handshake.specs.Edges.{late_b}

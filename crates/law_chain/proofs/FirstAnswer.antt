@@ -8,7 +8,7 @@ use borrow.Author.Tests.{eqb-true, eqb-false, eq-eqb, ne_eqb, not-true, not-fals
 use lib.Dec.{eqb}
 use lib.ListN.{length, get_or}
 use Rattle.counts.specs.declared.Micros.{Micros}
-use Rattle.counts.specs.Choice.{if◌then◌else◌}
+use Rattle.std.specs.Prelude.{if◌then◌else◌}
 use Rattle.counts.proofs.Choice.{by_test}
 use Rattle.counts.proofs.Tests.{both}
 use Rattle.pack_read.specs.declared.Pack.{Pack}

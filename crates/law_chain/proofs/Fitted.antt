@@ -10,7 +10,7 @@ use lib.Dec.{ltb, eqb}
 use lib.ListN.{length, take, set, replicate, length-set, length-append}
 use Rattle.pack_trailer.specs.Form.{trailer_length}
 use Rattle.counts.specs.declared.Place.{Place}
-use Rattle.counts.specs.Choice.{if◌then◌else◌}
+use Rattle.std.specs.Prelude.{if◌then◌else◌}
 use Rattle.counts.specs.Bytes.{Bytes}
 use Rattle.counts.specs.Slots.{map_with, all_with}
 use Rattle.counts.proofs.Choice.{either_way, guarded, never}

@@ -8,7 +8,7 @@ use borrow.Author.Tests.{leb-true, eqb-true, eqb-false, eq-eqb, ne_eqb, not-true
 use lib.Dec.{eqb}
 use lib.ListN.{length}
 use Rattle.counts.specs.declared.Micros.{Micros}
-use Rattle.counts.specs.Choice.{if◌then◌else◌}
+use Rattle.std.specs.Prelude.{if◌then◌else◌}
 use Rattle.counts.specs.Slots.{map_with}
 use Rattle.counts.proofs.Choice.{by_test}
 use Rattle.counts.proofs.Tests.{each}

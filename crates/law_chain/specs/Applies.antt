@@ -1,7 +1,7 @@
 -- "Of the answers 5, 4, 3, 0 the first that applies is given": when each applies to an event on a chain.
 use Rattle.std.specs.Prelude.{ℕ, Bool, true, false, ◌&&◌, not, List, [], ◌∷◌, ◌++◌, eqb}
 use Rattle.counts.specs.declared.Micros.{Micros}
-use Rattle.counts.specs.Choice.{if◌then◌else◌}
+use Rattle.std.specs.Prelude.{if◌then◌else◌}
 use Rattle.pack_read.specs.declared.Pack.{Pack}
 use Rattle.drive_record.specs.declared.State.{State}
 use Rattle.drive_record.specs.declared.Outcome.{Outcome}
@@ -73,9 +73,9 @@ none_selected_b c e = asked_b e && not (fitted_b (slot_pack c.packs (lines_after
 abbrev pub first_by : List Outcome → Bool → ℕ
 first_by outcomes unselected =
     if any_fault outcomes then 5
-    else if any_inhibited outcomes then 4
-    else if unselected then 3
-    else 0
+    else (if any_inhibited outcomes then 4
+    else (if unselected then 3
+    else 0))
 
 unfoldable pub first_applies : Chain → Event → ℕ
 first_applies c e = first_by (meets c e) (none_selected_b c e)

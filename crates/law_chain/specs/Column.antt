@@ -1,7 +1,7 @@
 -- The answer table's column "leaves", answer by answer.
 use Rattle.std.specs.Prelude.{ℕ, ◌<◌, ◌≡◌, List, [], ◌∷◌, length, get_or, set}
 use Rattle.counts.specs.declared.Position.{Position}
-use Rattle.counts.specs.Choice.{if◌then◌else◌}
+use Rattle.std.specs.Prelude.{if◌then◌else◌}
 use Rattle.drive_gates.specs.Gates.{read_falls}
 use Rattle.event.specs.declared.Event.{Event}
 use Rattle.event.specs.declared.Event.TheVariants.{Cell}

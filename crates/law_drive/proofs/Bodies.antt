@@ -9,7 +9,7 @@ use borrow.Author.Tests.{ltb-false, leb-true, leb-false, not-true, eqb-false, le
 use Rattle.counts.specs.declared.Head.{Head}
 use Rattle.counts.specs.declared.Micros.{Micros}
 use Rattle.counts.specs.Bytes.{bit}
-use Rattle.counts.specs.Choice.{if◌then◌else◌}
+use Rattle.std.specs.Prelude.{if◌then◌else◌}
 use Rattle.counts.proofs.Tests.{both, join, each}
 use Rattle.counts.proofs.Choice.{by_test}
 use Rattle.pack_profile.specs.declared.Profile.{Profile}

@@ -7,7 +7,7 @@ use native.Mathlib.Omega.{arith}
 use lib.Dec.{ltb, leb, eqb}
 use borrow.Author.Tests.{ltb-true, ltb-false, leb-true, leb-false, eqb-true, le-leb, lt-leb, lt-ltb, le-ltb, eq-eqb, not-false}
 use Rattle.counts.specs.declared.Micros.{Micros}
-use Rattle.counts.specs.Choice.{if◌then◌else◌}
+use Rattle.std.specs.Prelude.{if◌then◌else◌}
 use Rattle.counts.proofs.Tests.{both}
 use Rattle.handshake.specs.declared.Transfer.{Transfer}
 use Rattle.handshake.specs.Transfer.{patience, no_transfer, open_b}
@@ -148,7 +148,7 @@ unfolding pass_drive wait_of
 pass_outcome us s = by (late_b us s.transfer) (open_b s.transfer)
   where
     by : (late runs : Bool)
-        → (held_of (pass_body us s.body) (if late then Drop else if runs then Keep (aged_by us s.transfer) else Keep s.transfer)).outcome
+        → (held_of (pass_body us s.body) (if late then Drop else (if runs then Keep (aged_by us s.transfer) else Keep s.transfer))).outcome
         ≡ (if late then Fault else Done)
     by true runs = refl
     by false true = refl

@@ -5,7 +5,7 @@ use Prim.Native.Nat.{ℕ, ◌+◌, ◌/◌, ◌^◌, ◌≤◌}
 use native.Mathlib.Omega.{arith}
 use lib.Dec.{eqb}
 use borrow.Author.Tests.{leb-true, eqb-true, le-leb, eq-eqb}
-use Rattle.counts.specs.Choice.{if◌then◌else◌}
+use Rattle.std.specs.Prelude.{if◌then◌else◌}
 use Rattle.counts.proofs.Tests.{both, join, each, all}
 use Rattle.handshake.specs.declared.Transfer.{Transfer}
 use Rattle.handshake.specs.Transfer.{taking, responding, word_bits, largest, patience}
@@ -101,7 +101,7 @@ unfolding left_b
 by_way P request t h none taken given = ways _ _ _ refl refl refl h
   where
     ways : (n a b : Bool) → eqb t.way 0 ≡ n → eqb t.way taking ≡ a → eqb t.way responding ≡ b
-        → (if n then idle_b t else if a then taking_b request t else if b then responding_b request t else false) ≡ true → P
+        → (if n then idle_b t else (if a then taking_b request t else (if b then responding_b request t else false))) ≡ true → P
     ways true a b en ea eb k = none (eqb-true _ _ en) k
     ways false true b en ea eb k = taken (eqb-true _ _ ea) (takes request t k)
     ways false false true en ea eb k = given (eqb-true _ _ eb) (gives request t k)

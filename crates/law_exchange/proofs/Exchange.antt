@@ -6,7 +6,7 @@ use mathlib.Core.Bool.{Bool, true, false}
 use mathlib.Core.List.{List, [], ◌∷◌}
 use mathlib.Core.Option.{Option, none, some}
 use lib.ListN.{length}
-use Rattle.counts.specs.Choice.{if◌then◌else◌}
+use Rattle.std.specs.Prelude.{if◌then◌else◌}
 use Rattle.handshake.specs.Transfer.{no_transfer}
 use Rattle.event.specs.declared.Answer.TheVariants.{Taken, Fault}
 use Rattle.event.specs.Answer.{answer_number}

@@ -4,7 +4,7 @@ use mathlib.Core.Path.{◌≡◌, refl, sym, ap, ap₂}
 use mathlib.Core.Bool.{Bool, true, false}
 use mathlib.Core.List.{List, [], ◌∷◌}
 use mathlib.Core.Option.{Option, none, some}
-use Rattle.counts.specs.Choice.{if◌then◌else◌}
+use Rattle.std.specs.Prelude.{if◌then◌else◌}
 use Rattle.law_exchange.specs.Host.{Signal, level, ask, micros, Cable, Still, waits, sets, Bit, Gap, Sending, high, Going, Exchanged, going, exchanged, sends, goes, raises, lowers, sends_all, puts_up, fetches, sees, replies, goes_on, exchanges}
 use Rattle.law_exchange.specs.Waits.{Each, EachOfBits, EachOfGaps, EachWait}
 

@@ -1,7 +1,7 @@
 -- The host: what it sends, when it waits, and what it looks at.
 use Rattle.std.specs.Prelude.{ℕ, Bool, true, false, List, [], ◌∷◌}
 use Rattle.std.proofs.Math.Option.{Option, none, some}
-use Rattle.counts.specs.Choice.{if◌then◌else◌}
+use Rattle.std.specs.Prelude.{if◌then◌else◌}
 
 -- what it does on the cable: kind 4 "command data", kind 5 "transfer request", kind 6 "microseconds pass"
 pub data Signal : Type 0 where

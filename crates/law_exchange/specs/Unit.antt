@@ -1,7 +1,7 @@
 -- One unit on the cable: its transfer goes by the handshake's rules, and of the rest of it four operations are known.
 use Rattle.std.specs.Prelude.{ℕ, ◌+◌, Bool, false, eqb}
 use Rattle.std.proofs.Math.Option.{Option, none, some}
-use Rattle.counts.specs.Choice.{if◌then◌else◌}
+use Rattle.std.specs.Prelude.{if◌then◌else◌}
 use Rattle.handshake.specs.declared.Transfer.{Transfer}
 use Rattle.handshake.specs.declared.Held.{Held}
 use Rattle.handshake.specs.declared.Held.TheVariants.{Keep, Drop}
@@ -80,8 +80,8 @@ module _ {B : Type 0} (R : Rules B) where
   abbrev pub asked : ℕ → Wired B → Met B
   asked v u =
       if eqb u.request v then record { body = u.body; transfer = u.transfer; answer = answer_number Taken }
-      else if eqb v 1 then unit_risen u
-      else unit_fallen u
+      else (if eqb v 1 then unit_risen u
+      else unit_fallen u)
 
   abbrev pub after : Signal → Wired B → Wired B
   after (level v) u = wired u.body u.transfer v u.request u.elapsed

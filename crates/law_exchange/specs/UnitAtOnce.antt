@@ -1,7 +1,7 @@
 -- The other side: the waits pass, and the unit is given the whole word at once.
 use Rattle.std.specs.Prelude.{ℕ, zero, suc, ◌+◌, List, [], ◌∷◌, length}
 use Rattle.std.proofs.Math.Option.{Option, none, some}
-use Rattle.counts.specs.Choice.{if◌then◌else◌}
+use Rattle.std.specs.Prelude.{if◌then◌else◌}
 use Rattle.handshake.specs.Transfer.{word_bits, no_transfer}
 use Rattle.event.specs.declared.Answer.TheVariants.{Taken, Fault}
 use Rattle.event.specs.Answer.{answer_number}

@@ -1,6 +1,6 @@
 -- "one that acts on the first bit and only acknowledges sixteen more (demand 3 ..)": over the real chain, all else as ours.
 use Rattle.std.specs.Prelude.{◌&&◌, ◌≡◌, ◌∷◌, eqb, replicate}
-use Rattle.counts.specs.Choice.{if◌then◌else◌}
+use Rattle.std.specs.Prelude.{if◌then◌else◌}
 use Rattle.pack_profile.specs.declared.Profile.{Profile}
 use Rattle.pack_read.specs.Packs.{no_pack, fitted_pack}
 use Rattle.handshake.specs.declared.Fallen.{Fallen}

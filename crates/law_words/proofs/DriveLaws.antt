@@ -3,7 +3,7 @@ use Prim.Native.Nat.{ℕ}
 use native.Mathlib.Omega.{arith}
 use mathlib.Core.Path.{◌≡◌, refl, ap}
 use mathlib.Core.Option.{some}
-use Rattle.counts.specs.Choice.{if◌then◌else◌}
+use Rattle.std.specs.Prelude.{if◌then◌else◌}
 use Rattle.pack_profile.specs.declared.Profile.{Profile}
 use Rattle.drive_record.specs.declared.Body.{Body}
 use Rattle.word_table.specs.declared.Effect.{Effect}

@@ -3,7 +3,7 @@ use Prim.Native.Nat.{ℕ, ◌+◌}
 use mathlib.Core.Path.{◌≡◌, refl, ap}
 use mathlib.Core.Bool.{Bool, true, false}
 use lib.Dec.{eqb}
-use Rattle.counts.specs.Choice.{if◌then◌else◌}
+use Rattle.std.specs.Prelude.{if◌then◌else◌}
 use Rattle.pack_profile.specs.declared.Profile.{Profile}
 use Rattle.handshake.specs.declared.Transfer.{Transfer}
 use Rattle.handshake.specs.declared.Held.{Held}
@@ -90,7 +90,7 @@ module _ (p : Profile) (u : Wired Body) where
       where
         by : (late runs : Bool) (aged same : Transfer)
             → answer_number (if late then Fault else Taken)
-            ≡ (unit_held (drive p) (time.pass_body (record { 0 = us }) u.body) (if late then Drop else if runs then Keep aged else Keep same)).answer
+            ≡ (unit_held (drive p) (time.pass_body (record { 0 = us }) u.body) (if late then Drop else (if runs then Keep aged else Keep same))).answer
         by true runs aged same = refl
         by false true aged same = refl
         by false false aged same = refl

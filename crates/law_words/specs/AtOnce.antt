@@ -1,7 +1,7 @@
 -- The other side: the waits pass on every drive, and the plain word rules take the whole word at once.
 use Rattle.std.specs.Prelude.{ℕ, ◌+◌, ◌≡◌, true, false, List, [], ◌∷◌, length}
 use Rattle.std.proofs.Math.Option.{Option, none, some}
-use Rattle.counts.specs.Choice.{if◌then◌else◌}
+use Rattle.std.specs.Prelude.{if◌then◌else◌}
 use Rattle.handshake.specs.Transfer.{word_bits, open_b}
 use Rattle.drive_record.specs.Status.{complete_b}
 use Rattle.word_rules.specs.declared.Told.{Told}

@@ -11,7 +11,7 @@ use lib.Dec.{eqb, ltb}
 use lib.Seq.{get_or-drop, take_at, length-take-le, drop-drop}
 use Rattle.pack_trailer.specs.Form.{trailer_length}
 use Rattle.counts.specs.declared.Place.{Place}
-use Rattle.counts.specs.Choice.{if◌then◌else◌}
+use Rattle.std.specs.Prelude.{if◌then◌else◌}
 use Rattle.counts.specs.Bytes.{Bytes}
 use Rattle.counts.proofs.Bytes.{bytes_take}
 use Rattle.counts.proofs.Choice.{never}

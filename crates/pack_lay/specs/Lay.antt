@@ -1,6 +1,6 @@
 -- "Laying a pack puts a zeroed medium, then the trailer, at the start of a lent part."
 use Rattle.std.specs.Prelude.{ℕ, ◌+◌, List, ◌++◌, not, length, replicate, drop, ltb}
-use Rattle.counts.specs.Choice.{if◌then◌else◌}
+use Rattle.std.specs.Prelude.{if◌then◌else◌}
 use Rattle.pack_profile.specs.declared.Profile.{Profile}
 use Rattle.pack_profile.specs.Profile.{medium_of}
 use Rattle.pack_trailer.specs.Form.{trailer_length}
@@ -24,9 +24,9 @@ pack_length p = medium_of p.shape + trailer_length
 unfoldable pub laid_answer : Profile → ℕ → Laid
 laid_answer p room =
     if not (valid_b p) then Refused Field
-    else if ltb longest_file (pack_length p) then Refused Large
-    else if ltb room (pack_length p) then Refused Room
-    else Done
+    else (if ltb longest_file (pack_length p) then Refused Large
+    else (if ltb room (pack_length p) then Refused Room
+    else Done))
 
 abbrev pub pack_trailer : Profile → List ℕ
 pack_trailer p = trailer_of p (pack_length p)

@@ -1,6 +1,6 @@
 -- "Fields (place: meaning, range)": which may stand. Refusal 33 says that one may not.
 use Rattle.std.specs.Prelude.{ℕ, List, [], ◌∷◌, Bool, leb, eqb}
-use Rattle.counts.specs.Choice.{if◌then◌else◌}
+use Rattle.std.specs.Prelude.{if◌then◌else◌}
 use Rattle.counts.specs.Slots.{slot_b}
 use Rattle.counts.specs.Tests.{all_of, within}
 use Rattle.pack_profile.specs.declared.Profile.{Profile}

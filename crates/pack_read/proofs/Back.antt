@@ -11,7 +11,7 @@ use lib.Dec.{ltb, leb, eqb}
 use lib.Seq.{length-take-le}
 use Rattle.pack_trailer.specs.Form.{trailer_length}
 use Rattle.counts.specs.declared.Place.{Place}
-use Rattle.counts.specs.Choice.{if◌then◌else◌}
+use Rattle.std.specs.Prelude.{if◌then◌else◌}
 use Rattle.counts.specs.Bytes.{one, four}
 use Rattle.counts.proofs.Choice.{never}
 use Rattle.counts.proofs.Tests.{both}

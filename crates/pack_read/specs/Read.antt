@@ -1,6 +1,6 @@
 -- "Reading goes from the end: the last pack is read, then what is left in front of it by the same rule."
 use Rattle.std.specs.Prelude.{ℕ, zero, suc, ◌+◌, ◌-◌, List, Bool, ◌&&◌, not, length, take, drop, set, ltb, leb, eqb}
-use Rattle.counts.specs.Choice.{if◌then◌else◌}
+use Rattle.std.specs.Prelude.{if◌then◌else◌}
 use Rattle.counts.specs.Bytes.{one, four}
 use Rattle.pack_profile.specs.declared.Profile.{Profile}
 use Rattle.pack_profile.specs.Profile.{medium_of}
@@ -20,12 +20,12 @@ use Rattle.pack_read.specs.Packs.{longest_file, no_packs, fitted_pack}
 unfoldable pub verdict_of : ℕ → ℕ → ℕ → ℕ → Bool → ℕ → Profile → Last
 verdict_of n limit distance form good medium p =
     if ltb distance trailer_length then Refused Distance  -- "31 distance below 44"
-    else if ltb n distance then Refused Distance  -- "or more than is left"
-    else if not (eqb form form_one) then Refused Form  -- "32 other form"
-    else if not good then Refused Field  -- "33 a field"
-    else if not (eqb distance (medium + trailer_length)) then Refused Size  -- "34 distance isn't cylinders × heads × track length + 44"
-    else if leb limit p.slot then Refused Order  -- "35 slots not rising through the file"
-    else Found (record { 0 = n - distance }) p
+    else (if ltb n distance then Refused Distance  -- "or more than is left"
+    else (if not (eqb form form_one) then Refused Form  -- "32 other form"
+    else (if not good then Refused Field  -- "33 a field"
+    else (if not (eqb distance (medium + trailer_length)) then Refused Size  -- "34 distance isn't cylinders × heads × track length + 44"
+    else (if leb limit p.slot then Refused Order  -- "35 slots not rising through the file"
+    else Found (record { 0 = n - distance }) p)))))
 
 unfoldable pub checked : List ℕ → ℕ → ℕ → Last
 checked t n limit =

@@ -8,7 +8,7 @@ use lib.Dec.{eqb}
 use borrow.Author.Tests.{le-leb, eq-eqb}
 use Rattle.counts.specs.declared.Cylinder.{Cylinder}
 use Rattle.counts.specs.declared.Distance.{Distance}
-use Rattle.counts.specs.Choice.{if◌then◌else◌}
+use Rattle.std.specs.Prelude.{if◌then◌else◌}
 use Rattle.pack_profile.specs.declared.Profile.{Profile}
 use Rattle.pack_profile.specs.declared.Times.{Times}
 use Rattle.pack_profile.specs.Valid.{valid_b}

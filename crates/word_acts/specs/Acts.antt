@@ -5,7 +5,7 @@ use Rattle.counts.specs.declared.Cylinder.{Cylinder}
 use Rattle.counts.specs.declared.Distance.{Distance}
 use Rattle.counts.specs.declared.Micros.{Micros}
 use Rattle.counts.specs.declared.SectorSize.{SectorSize}
-use Rattle.counts.specs.Choice.{if◌then◌else◌}
+use Rattle.std.specs.Prelude.{if◌then◌else◌}
 use Rattle.pack_profile.specs.declared.Times.{Times}
 use Rattle.drive_record.specs.declared.Arm.{Arm}
 use Rattle.drive_record.specs.declared.Latched.{Latched}

@@ -1,6 +1,6 @@
 -- A word carried out, and the plain word rules.
 use Rattle.std.specs.Prelude.{ℕ, Bool, ◌||◌, not, eqb}
-use Rattle.counts.specs.Choice.{if◌then◌else◌}
+use Rattle.std.specs.Prelude.{if◌then◌else◌}
 use Rattle.pack_profile.specs.declared.Profile.{Profile}
 use Rattle.pack_profile.specs.declared.Times.{Times}
 use Rattle.drive_record.specs.declared.Body.{Body}

@@ -6,7 +6,7 @@ use native.Mathlib.Omega.{arith}
 use lib.Dec.{ltb, eqb}
 use borrow.Author.Tests.{ltb-true, eqb-true, not-true, not-false}
 use Rattle.counts.specs.Bytes.{bit}
-use Rattle.counts.specs.Choice.{if◌then◌else◌}
+use Rattle.std.specs.Prelude.{if◌then◌else◌}
 use Rattle.counts.proofs.Tests.{both}
 use Rattle.counts.proofs.Choice.{by_test}
 use Rattle.counts.proofs.First.{every_at}

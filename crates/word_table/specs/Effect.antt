@@ -1,6 +1,6 @@
 -- Which words are valid, and what a word comes to.
 use Rattle.std.specs.Prelude.{ℕ, ◌%◌, ◌^◌, Bool, true, ◌&&◌, ◌||◌, not, ltb, leb, eqb}
-use Rattle.counts.specs.Choice.{if◌then◌else◌}
+use Rattle.std.specs.Prelude.{if◌then◌else◌}
 use Rattle.pack_profile.specs.declared.Profile.{Profile}
 use Rattle.pack_profile.specs.Profile.{gaps_of}
 use Rattle.pack_profile.specs.General.{offset_option, motor_option, soft}
@@ -18,9 +18,9 @@ use Rattle.word_table.specs.Table.{motor, offsets, hard, ready, position, seek, 
 unfoldable pub option_b : Profile → ℕ → Bool
 option_b p option =
     if eqb option motor then motor_option p.general
-    else if eqb option offsets then offset_option p.general
-    else if eqb option hard then not (soft p.general)
-    else true
+    else (if eqb option offsets then offset_option p.general
+    else (if eqb option hard then not (soft p.general)
+    else true))
 
 -- "set bytes per sector"
 unfoldable pub size_b : Profile → ℕ → Bool
@@ -31,8 +31,8 @@ size_b p size =
 unfoldable pub operand_b : Profile → ℕ → ℕ → Bool
 operand_b p act w =
     if eqb act seek then ltb (bits11to0 w) p.shape.cylinders.0  -- "cylinder < cylinders"
-    else if eqb act sector then size_b p (bits11to0 w)
-    else eqb (w % 256) 0  -- "so are non-zero bits 7..0 outside 0 and 9"
+    else (if eqb act sector then size_b p (bits11to0 w)
+    else eqb (w % 256) 0)  -- "so are non-zero bits 7..0 outside 0 and 9"
 
 abbrev pub word_valid_b : Profile → Row → ℕ → Bool
 word_valid_b p r w = option_b p r.option && operand_b p r.act w
@@ -46,26 +46,26 @@ blocked_b b asks =
 unfoldable pub act_of : ℕ → ℕ → Effect
 act_of act w =
     if eqb act seek then Does (Seek (record { 0 = bits11to0 w }))
-    else if eqb act recalibrate then Does Recalibrate
-    else if eqb act status then Status
-    else if eqb act configuration then Configuration (modifier_of w)
-    else if eqb act clear then Does Clear
-    else if eqb act stop then Does Stop
-    else if eqb act start then Does Start
-    else if eqb act restore then Does (Offset 0)
-    else if eqb act plus then Does (Offset 1)
-    else if eqb act minus then Does (Offset 2)
-    else if eqb act diagnose then Does Diagnose
-    else if eqb act sector then Does (Sector (record { 0 = bits11to0 w }))
-    else Fails (2 ^ 5)  -- "Other codes are invalid"
+    else (if eqb act recalibrate then Does Recalibrate
+    else (if eqb act status then Status
+    else (if eqb act configuration then Configuration (modifier_of w)
+    else (if eqb act clear then Does Clear
+    else (if eqb act stop then Does Stop
+    else (if eqb act start then Does Start
+    else (if eqb act restore then Does (Offset 0)
+    else (if eqb act plus then Does (Offset 1)
+    else (if eqb act minus then Does (Offset 2)
+    else (if eqb act diagnose then Does Diagnose
+    else (if eqb act sector then Does (Sector (record { 0 = bits11to0 w }))
+    else Fails (2 ^ 5))))))))))))  -- "Other codes are invalid"
 
 -- "Order for a whole word"
 unfoldable pub order_of : Profile → Body → ℕ → Row → ℕ → Effect
 order_of p b n r w =
     if not (odd_b n) then Fails (2 ^ 7)  -- "even parity, bit 7"
-    else if not (word_valid_b p r w) then Fails (2 ^ 5)  -- "invalid, bit 5"
-    else if blocked_b b r.asks then Fails (2 ^ 4)  -- "when not ready, bit 4; .. with position lost, bit 4"
-    else act_of r.act w  -- "else carried out"
+    else (if not (word_valid_b p r w) then Fails (2 ^ 5)  -- "invalid, bit 5"
+    else (if blocked_b b r.asks then Fails (2 ^ 4)  -- "when not ready, bit 4; .. with position lost, bit 4"
+    else act_of r.act w))  -- "else carried out"
 
 unfoldable pub effect_of : Profile → Body → ℕ → Effect
 effect_of p b n = order_of p b n (found_of (code_of (sixteen_of n)) (modifier_of (sixteen_of n))) (sixteen_of n)
