@@ -1,2 +1,147 @@
-// A record lent by `&` or `&mut` over functions that take it by value: walks of the code, whatever the record is. Theory, no code of its own.
+// A record lent by `&` or `&mut` over functions that take it by value: what is lent is, at the return, what those functions give,
+// whatever the record is and whatever they do. Theory: a law is a function here, and nothing calls it.
 #![tactic(auto)]
+
+ghost use Rattle.std.specs.Prelude.{◌≡◌, ℕ, List};
+ghost use Rattle.std.specs.Borrow.{MutBor};
+
+// Lent alone, and looked at.
+pub fn looked<T: Copy, L: FnOnce(T) -> u32>(c: &T, look: L) -> u32
+    requires { L.pre look c.now }
+    ensures { L.post look c.now result }
+{
+    let old = *c;
+    look(old)
+}
+
+// Lent alone, and filled.
+pub fn filled<T: Copy, F: FnOnce() -> T>(c: &mut T, fill: F)
+    requires { F.pre fill }
+    ensures { F.post fill c.new }
+{
+    *c = fill();
+}
+
+// Beside two numbers: the record and the number are those of one result.
+pub fn word<T: Copy, R: Copy, V: FnOnce(T, u32, u32) -> R, P: FnOnce(R) -> T, N: FnOnce(R) -> u64>(
+    c: &mut T,
+    a: u32,
+    b: u32,
+    value: V,
+    part: P,
+    number: N,
+) -> u64
+    requires value_ok { V.IsAlwaysCallable value }
+    requires part_ok { P.IsAlwaysCallable part }
+    requires number_ok { N.IsAlwaysCallable number }
+    ensures { (r : R) × V.post value c.old a b r × P.post part r c.new × N.post number r result }
+{
+    let old = *c;
+    let sent = value(old, a, b);
+    *c = part(sent);
+    number(sent)
+}
+
+// Beside a file and three numbers: one call leaves the file and a result; the record is made anew of that and of the old one.
+pub fn event<
+    T: Copy,
+    R: Copy,
+    V: FnOnce(T, &mut [u8], u32, u32, u32) -> R,
+    P: FnOnce(T, R) -> T,
+    N: FnOnce(R) -> u32,
+>(c: &mut T, file: &mut [u8], kind: u32, a: u32, b: u32, value: V, part: P, number: N) -> u32
+    requires value_ok { V.IsAlwaysCallable value }
+    requires part_ok { P.IsAlwaysCallable part }
+    requires number_ok { N.IsAlwaysCallable number }
+    ensures { (r : R) × (x y : MutBor (List ℕ)) × (x.now ≡ file.old) × (y.now ≡ file.new)
+        × V.post value c.old x kind a b r y × P.post part c.old r c.new × N.post number r result }
+{
+    let old = *c;
+    let performed = value(old, file, kind, a, b);
+    *c = part(old, performed);
+    number(performed)
+}
+
+// Beside a file that is read.
+pub fn fit<T: Copy, R: Copy, V: FnOnce(T, &[u8]) -> R, P: FnOnce(R) -> T, N: FnOnce(R) -> u64>(
+    c: &mut T,
+    file: &[u8],
+    value: V,
+    part: P,
+    number: N,
+) -> u64
+    requires value_ok { V.IsAlwaysCallable value }
+    requires part_ok { P.IsAlwaysCallable part }
+    requires number_ok { N.IsAlwaysCallable number }
+    ensures { (r : R) × V.post value c.old file.entry r × P.post part r c.new × N.post number r result }
+{
+    let old = *c;
+    let fitted = value(old, file);
+    *c = part(fitted);
+    number(fitted)
+}
+
+// Beside a file that is read, and a number.
+pub fn pack<
+    T: Copy,
+    R: Copy,
+    V: FnOnce(T, &[u8], u32) -> R,
+    P: FnOnce(R) -> T,
+    N: FnOnce(R) -> u64,
+>(c: &mut T, file: &[u8], slot: u32, value: V, part: P, number: N) -> u64
+    requires value_ok { V.IsAlwaysCallable value }
+    requires part_ok { P.IsAlwaysCallable part }
+    requires number_ok { N.IsAlwaysCallable number }
+    ensures { (r : R) × V.post value c.old file.entry slot r × P.post part r c.new × N.post number r result }
+{
+    let old = *c;
+    let found = value(old, file, slot);
+    *c = part(found);
+    number(found)
+}
+
+// A record that is read, beside a part that is written.
+pub fn lay<T: Copy, V: FnOnce(T, &mut [u8]) -> u32>(part: &mut [u8], p: &T, value: V) -> u32
+    requires { V.IsAlwaysCallable value }
+    ensures { (x y : MutBor (List ℕ)) × (x.now ≡ part.old) × (y.now ≡ part.new) × V.post value p.now x result y }
+{
+    let profile = *p;
+    value(profile, part)
+}
+
+// Beside a file that is written, a part that is read and another that is written.
+pub fn capture<
+    T: Copy,
+    R: Copy,
+    V: FnOnce(T, &mut [u8], &[u8], &mut [u8]) -> R,
+    P: FnOnce(R) -> T,
+    N: FnOnce(R) -> u64,
+>(
+    c: &mut T,
+    file: &mut [u8],
+    samples: &[u8],
+    answers: &mut [u8],
+    value: V,
+    part: P,
+    number: N,
+) -> u64
+    requires value_ok { V.IsAlwaysCallable value }
+    requires part_ok { P.IsAlwaysCallable part }
+    requires number_ok { N.IsAlwaysCallable number }
+    ensures { (r : R) × (x y u v : MutBor (List ℕ)) × (x.now ≡ file.old) × (y.now ≡ file.new) × (u.now ≡ answers.old) × (v.now ≡ answers.new)
+        × V.post value c.old x samples.entry u r y v × P.post part r c.new × N.post number r result }
+{
+    let old = *c;
+    let ran = value(old, file, samples, answers);
+    *c = part(ran);
+    number(ran)
+}
+
+// A record that is read, beside a part that is read.
+pub fn counted<T: Copy, V: FnOnce(T, &[u8]) -> u64>(c: &T, samples: &[u8], value: V) -> u64
+    requires { V.IsAlwaysCallable value }
+    ensures { V.post value c.now samples.entry result }
+{
+    let old = *c;
+    value(old, samples)
+}
