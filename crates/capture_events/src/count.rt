@@ -7,6 +7,7 @@ use crate::SPAN;
 use capture_samples::{LENGTH, Sample, sample_of};
 use lines::Lines;
 
+#[tactic(auto, using(crate::proofs::Passing::passes_whole, crate::proofs::Passing::passes_more))]
 fn spans(gap: u32) -> u32
     ensures { result ≡ length (passing_of gap) }
 {
@@ -25,6 +26,7 @@ fn changed(old: u16, new: u16) -> u32
     1
 }
 
+#[tactic(auto, using(crate::proofs::Changing::changes_many))]
 fn changes(old: Lines, new: Lines) -> u32
     ensures { result ≡ length (changes_of old new) }
 {
@@ -37,6 +39,7 @@ fn changes(old: Lines, new: Lines) -> u32
 }
 
 // From one sample to the next.
+#[tactic(auto, using(crate::proofs::Counting::time_and_lines))]
 fn between(at: Sample, to: Sample) -> u64
     ensures { result ≡ length (events_to at to) }
 {

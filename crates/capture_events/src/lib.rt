@@ -24,6 +24,7 @@ pub enum Ahead {
 }
 
 // From the earlier stamp to the later, which may have run over.
+#[tactic(auto, using(crate::proofs::Passing::gap_is))]
 fn gap(later: u32, earlier: u32) -> u32
     ensures { result ≡ gap_of later earlier }
 {
