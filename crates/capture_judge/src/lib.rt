@@ -40,6 +40,7 @@ pub fn taking_value(t: Taking) -> u64
 }
 
 // The whole capture is looked at, and its events counted, before anything is done.
+#[tactic(auto, unfolding(crate::specs::Taking::taking_of))]
 pub fn judge(start: Lines, capture: &[u8], room: usize) -> Taking
     ensures { result ≡ taking_of start capture.now room }
 {
