@@ -66,6 +66,7 @@ fn run_through(c: Chain, file: &mut [u8], capture: &[u8], answers: &mut [u8]) ->
 }
 
 // A capture on a chain and its file. One that is refused leaves the chain, the file and the answers.
+#[tactic(auto, unfolding(crate::specs::Captured::captured_of, crate::specs::Captured::captured_file, crate::specs::Captured::captured_answers))]
 pub fn run(c: Chain, file: &mut [u8], capture: &[u8], answers: &mut [u8]) -> Captured
     ensures { (result ≡ captured_of c file.old capture.now (length answers.old))
         × ((file.new ≡ captured_file c file.old capture.now (length answers.old))
