@@ -52,7 +52,6 @@ pub fn opened(chain: Chain, part: &[u8]) -> Session
 }
 
 // An event without a second operand, its answer put behind the output that waits.
-#[tactic(auto, unfolding(crate::specs::Stream::answered_of))]
 fn answered(
     out: &mut [u8; BLOCK],
     at: usize,
