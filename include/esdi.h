@@ -10,7 +10,7 @@
  * written to by hand is checked by every call that acts on it and refused with 22 where the rules could not have left
  * it.
  *
- * Link with libesdi.a, which `rt staticlib esdi` writes. */
+ * Link with libesdi.a, which `rt lib` in crates/esdi writes. */
 #ifndef ESDI_H
 #define ESDI_H
 

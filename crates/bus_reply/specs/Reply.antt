@@ -26,7 +26,7 @@ abbrev pub reply_of : Chain → List ℕ → Line → Reply
 reply_of c file (Numbers kind a b) = event_reply kind a b c file
 reply_of c file Unreadable = unreadable_reply c
 
--- "Refusals 19 to 25 change nothing": 19 leaves the file; 20 to 25 leave it by stepFile
+-- "Refusals 19 to 25 change nothing": 19 leaves the file; 20 to 25 leave it by step_file
 abbrev pub reply_file : Chain → List ℕ → Line → List ℕ
 reply_file c file (Numbers kind a b) = step_file kind a b c file
 reply_file c file Unreadable = file

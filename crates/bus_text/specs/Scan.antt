@@ -1,4 +1,4 @@
--- The same a byte at a time: what a line read so far leaves to remember. That it is the same is `Line-read` of proofs/Reading.antt.
+-- The same a byte at a time: what a line read so far leaves to remember. That it is the same is `line_read` of proofs/Reading.antt.
 use Rattle.std.specs.Prelude.{ℕ, ◌+◌, List, [], ◌∷◌, Bool, true, false, ◌&&◌, ◌||◌, leb, ltb, eqb}
 use Rattle.std.specs.Prelude.{if◌then◌else◌}
 use Rattle.bus_text.specs.declared.Scan.{Scan}

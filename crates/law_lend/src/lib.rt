@@ -31,7 +31,7 @@ pub fn word<T: Copy, R: Copy, V: FnOnce(T, u32, u32) -> R, P: FnOnce(R) -> T, N:
     part: P,
     number: N,
 ) -> u64
-    requires value_ok { V.IsAlwaysCallable value }
+    requires value_ok { V.pre value c.old a b }
     requires part_ok { P.IsAlwaysCallable part }
     requires number_ok { N.IsAlwaysCallable number }
     ensures { (r : R) × V.post value c.old a b r × P.post part r c.new × N.post number r result }
@@ -50,8 +50,8 @@ pub fn event<
     P: FnOnce(T, R) -> T,
     N: FnOnce(R) -> u32,
 >(c: &mut T, file: &mut [u8], kind: u32, a: u32, b: u32, value: V, part: P, number: N) -> u32
-    requires value_ok { V.IsAlwaysCallable value }
-    requires part_ok { P.IsAlwaysCallable part }
+    requires value_ok { (x : MutBor (List ℕ)) → x.now ≡ file.old → V.pre value c.old x kind a b }
+    requires part_ok { (r : R) → P.pre part c.old r }
     requires number_ok { N.IsAlwaysCallable number }
     ensures { (r : R) × (x y : MutBor (List ℕ)) × (x.now ≡ file.old) × (y.now ≡ file.new)
         × V.post value c.old x kind a b r y × P.post part c.old r c.new × N.post number r result }
@@ -70,7 +70,7 @@ pub fn fit<T: Copy, R: Copy, V: FnOnce(T, &[u8]) -> R, P: FnOnce(R) -> T, N: FnO
     part: P,
     number: N,
 ) -> u64
-    requires value_ok { V.IsAlwaysCallable value }
+    requires value_ok { V.pre value c.old file }
     requires part_ok { P.IsAlwaysCallable part }
     requires number_ok { N.IsAlwaysCallable number }
     ensures { (r : R) × V.post value c.old file.entry r × P.post part r c.new × N.post number r result }
@@ -89,7 +89,7 @@ pub fn pack<
     P: FnOnce(R) -> T,
     N: FnOnce(R) -> u64,
 >(c: &mut T, file: &[u8], slot: u32, value: V, part: P, number: N) -> u64
-    requires value_ok { V.IsAlwaysCallable value }
+    requires value_ok { V.pre value c.old file slot }
     requires part_ok { P.IsAlwaysCallable part }
     requires number_ok { N.IsAlwaysCallable number }
     ensures { (r : R) × V.post value c.old file.entry slot r × P.post part r c.new × N.post number r result }
@@ -102,7 +102,7 @@ pub fn pack<
 
 // A record that is read, beside a part that is written.
 pub fn lay<T: Copy, V: FnOnce(T, &mut [u8]) -> u32>(part: &mut [u8], p: &T, value: V) -> u32
-    requires { V.IsAlwaysCallable value }
+    requires { (x : MutBor (List ℕ)) → x.now ≡ part.old → V.pre value p.now x }
     ensures { (x y : MutBor (List ℕ)) × (x.now ≡ part.old) × (y.now ≡ part.new) × V.post value p.now x result y }
 {
     let profile = *p;
@@ -125,7 +125,7 @@ pub fn capture<
     part: P,
     number: N,
 ) -> u64
-    requires value_ok { V.IsAlwaysCallable value }
+    requires value_ok { (x u : MutBor (List ℕ)) → x.now ≡ file.old → u.now ≡ answers.old → V.pre value c.old x samples u }
     requires part_ok { P.IsAlwaysCallable part }
     requires number_ok { N.IsAlwaysCallable number }
     ensures { (r : R) × (x y u v : MutBor (List ℕ)) × (x.now ≡ file.old) × (y.now ≡ file.new) × (u.now ≡ answers.old) × (v.now ≡ answers.new)
@@ -139,7 +139,7 @@ pub fn capture<
 
 // A record that is read, beside a part that is read.
 pub fn counted<T: Copy, V: FnOnce(T, &[u8]) -> u64>(c: &T, samples: &[u8], value: V) -> u64
-    requires { V.IsAlwaysCallable value }
+    requires { V.pre value c.now samples }
     ensures { V.post value c.now samples.entry result }
 {
     let old = *c;
