@@ -1,6 +1,6 @@
 // The bus runner.
 #![tactic(auto)]
 
-fn main() {
-    bus_runner::start();
+fn main(rt: HostRuntime) {
+    bus_runner::start(&rt);
 }

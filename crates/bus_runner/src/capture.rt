@@ -3,12 +3,15 @@ ghost use Rattle.std.specs.Prelude.{◌≡◌, ◌≤◌, true, length, take};
 ghost use Rattle.capture_samples.specs.Samples.{good_bytes};
 ghost use Rattle.bus_capture.specs.Parts.{session_after, file_after};
 
-use crate::{complain, written};
+use crate::host::{fail, read_full};
+use crate::{usage, written};
 use bus_capture::Session;
 use bus_output::BLOCK;
 use capture_samples::LENGTH;
 use chain_record::Chain;
-use libc::STDERR_FILENO;
+use std::fs;
+use std::io::Read;
+use std::rt::Files;
 
 // The length of a block of a capture: whole samples, so that none straddles two blocks.
 const PART: usize = 65_532;
@@ -34,45 +37,41 @@ struct Run {
     open: bool,
 }
 
-fn complain_bad(path: &[u8], place: u64) {
-    complain(path);
-    complain(b": refused 40 at ");
-    io::print_decimal(STDERR_FILENO, place);
-    complain(b"\n");
+fn complain_bad(rt: &impl Eprint, path: &str, place: u64) {
+    let _ = eprintln!(rt; "{path}: refused 40 at {place}");
 }
 
-fn complain_changed(path: &[u8]) {
-    complain(path);
-    complain(b": changed while it was read\n");
+fn complain_changed(rt: &impl Eprint, path: &str) {
+    let _ = eprintln!(rt; "{path}: changed while it was read");
 }
 
 // Whether the capture has no byte past those read.
-fn at_end(fd: i32, path: &[u8]) -> bool {
+fn at_end<F: Read>(rt: &impl Eprint, from: &mut F, path: &str) -> bool {
     let mut next = [0u8; 1];
-    let more = libc::read(fd, &mut next);
-    if more == 0 {
-        return true;
+    match from.read(&mut next) {
+        Ok(0) => return true,
+        Ok(_) => complain_changed(rt, path),
+        Err(why) => fail(rt, path, &why),
     }
-    if more < 0 {
-        os::fail(path);
-        return false;
-    }
-    complain_changed(path);
     false
 }
 
 // Reads the next block, which is full but at the end.
-fn filled(fd: i32, path: &[u8], block: &mut [u8; PART]) -> Got
+fn filled<F: Read>(rt: &impl Eprint, from: &mut F, path: &str, block: &mut [u8; PART]) -> Got
     ensures { result.n ≤ 65_532 }
 {
-    let n = io::read_full(fd, block);
+    let n = match read_full(from, block) {
+        Ok(n) => n,
+        Err(why) => {
+            fail(rt, path, &why);
+            return Got { n: 0, good: false };
+        }
+    };
     if n == PART {
         return Got { n, good: true };
     }
-    Got {
-        n,
-        good: at_end(fd, path),
-    }
+    let good = at_end(rt, from, path);
+    Got { n, good }
 }
 
 // How many bytes stand in front of the first bad sample of a block.
@@ -84,11 +83,10 @@ fn good_front(block: &[u8], n: usize) -> usize
 }
 
 // Looks at every block, and says where the first bad sample stands in the whole capture.
-fn looked(fd: i32, path: &[u8], block: &mut [u8; PART]) -> Found {
+fn looked<F: Read>(rt: &impl Eprint, from: &mut F, path: &str, block: &mut [u8; PART]) -> Found {
     let mut length = 0;
-    let mut turns = u64::MAX;
-    while turns > 0 {
-        let got = filled(fd, path, block);
+    for _ in 0..u64::MAX {
+        let got = filled(rt, from, path, block);
         if !got.good {
             return Found {
                 good: false,
@@ -97,7 +95,7 @@ fn looked(fd: i32, path: &[u8], block: &mut [u8; PART]) -> Found {
         }
         let good = good_front(block, got.n);
         if good != got.n {
-            complain_bad(path, std::num::wrapping_add_u64(length, good as u64));
+            complain_bad(rt, path, std::num::wrapping_add_u64(length, good as u64));
             return Found {
                 good: false,
                 length,
@@ -107,26 +105,25 @@ fn looked(fd: i32, path: &[u8], block: &mut [u8; PART]) -> Found {
         if got.n < PART {
             return Found { good: true, length };
         }
-        turns -= 1;
     }
     Found { good: true, length }
 }
 
 // Whether the file is a capture, and how long; where it is none, why is said.
-pub fn look(path: &[u8]) -> Found {
-    let fd = os::open_read(path);
-    if fd < 0 {
-        os::fail(path);
-        crate::usage();
-        return Found {
-            good: false,
-            length: 0,
-        };
-    }
+pub fn look<R: Files + Eprint>(rt: &R, path: &str) -> Found {
+    let mut from = match fs::open(rt, path) {
+        Ok(from) => from,
+        Err(why) => {
+            fail(rt, path, &why);
+            usage(rt);
+            return Found {
+                good: false,
+                length: 0,
+            };
+        }
+    };
     let mut block = [0u8; PART];
-    let found = looked(fd, path, &mut block);
-    libc::close(fd);
-    found
+    looked(rt, &mut from, path, &mut block)
 }
 
 // How long the next block of a capture is, by what is left of it.
@@ -138,23 +135,35 @@ fn next_length(left: u64) -> u64 {
 }
 
 // Reads the next block anew, which is as long as it was when it was looked at.
-fn filled_anew(fd: i32, path: &[u8], block: &mut [u8; PART], left: u64) -> Got
+fn filled_anew<F: Read>(
+    rt: &impl Eprint,
+    from: &mut F,
+    path: &str,
+    block: &mut [u8; PART],
+    left: u64,
+) -> Got
     ensures { result.n ≤ 65_532 }
 {
-    let got = filled(fd, path, block);
+    let got = filled(rt, from, path, block);
     let n = got.n;
     if !got.good {
         return Got { n, good: false };
     }
     if n as u64 != next_length(left) {
-        complain_changed(path);
+        complain_changed(rt, path);
         return Got { n, good: false };
     }
     Got { n, good: true }
 }
 
 // Runs a part of whole samples. Every answer goes out before the next part is read; without a reader nothing more is run.
-fn fed(part: &[u8], out: &mut [u8; BLOCK], file: &mut [u8], first: Run) -> Run
+fn fed<R: Print + Eprint>(
+    rt: &R,
+    part: &[u8],
+    out: &mut [u8; BLOCK],
+    file: &mut [u8],
+    first: Run,
+) -> Run
     ensures { result.open ≡ true → (result.session ≡ session_after first.session file.old part.now) × (file.new ≡ file_after first.session file.old part.now) }
 {
     let mut r = first;
@@ -162,7 +171,7 @@ fn fed(part: &[u8], out: &mut [u8; BLOCK], file: &mut [u8], first: Run) -> Run
     while part.len() - i >= LENGTH {
         let t = bus_capture::feed(&part[i..], out, file, r.session);
         let session = t.session;
-        let open = written(out, t.at, r.open);
+        let open = written(rt, out, t.at, r.open);
         r = Run { session, open };
         if !open {
             return r;
@@ -173,8 +182,9 @@ fn fed(part: &[u8], out: &mut [u8; BLOCK], file: &mut [u8], first: Run) -> Run
 }
 
 // A block is looked at again before it is run: the file may have changed since.
-fn taken(
-    path: &[u8],
+fn taken<R: Print + Eprint>(
+    rt: &R,
+    path: &str,
     block: &[u8],
     n: usize,
     out: &mut [u8; BLOCK],
@@ -185,14 +195,14 @@ fn taken(
     ensures { result.open ≡ true → (result.session ≡ session_after first.session file.old (take n block.now)) × (file.new ≡ file_after first.session file.old (take n block.now)) }
 {
     if good_front(block, n) != n {
-        complain_changed(path);
+        complain_changed(rt, path);
         let session = first.session;
         return Run {
             session,
             open: false,
         };
     }
-    fed(&block[..n], out, file, first)
+    fed(rt, &block[..n], out, file, first)
 }
 
 fn opened(chain: Chain, block: &[u8], n: usize) -> Session
@@ -202,10 +212,11 @@ fn opened(chain: Chain, block: &[u8], n: usize) -> Session
 }
 
 // Runs every block, from the first, of which n bytes were read; so many are left behind it.
-// A proved loop must end, so this one counts its turns down from a number that no run reaches.
-fn run_all(
-    fd: i32,
-    path: &[u8],
+// A proved loop must end, so this one counts its turns up to a number that no run reaches.
+fn run_all<R: Print + Eprint, F: Read>(
+    rt: &R,
+    from: &mut F,
+    path: &str,
     block: &mut [u8; PART],
     first: usize,
     rest: u64,
@@ -218,64 +229,72 @@ fn run_all(
     let mut r = begun;
     let mut n = first;
     let mut left = rest;
-    let mut turns = u64::MAX;
-    while turns > 0 {
-        r = taken(path, block, n, out, file, r);
+    for _ in 0..u64::MAX {
+        r = taken(rt, path, block, n, out, file, r);
         if !r.open {
             return;
         }
         if n < PART {
             return;
         }
-        let got = filled_anew(fd, path, block, left);
+        let got = filled_anew(rt, from, path, block, left);
         if !got.good {
             return;
         }
         n = got.n;
         left = std::num::wrapping_sub_u64(left, n as u64);
-        turns -= 1;
     }
 }
 
-fn serve_in(
+fn serve_in<R: Print + Eprint, F: Read>(
+    rt: &R,
     chain: Chain,
     file: &mut [u8],
-    fd: i32,
-    path: &[u8],
+    from: &mut F,
+    path: &str,
     length: u64,
     block: &mut [u8; PART],
     out: &mut [u8; BLOCK],
 ) {
-    let got = filled_anew(fd, path, block, length);
+    let got = filled_anew(rt, from, path, block, length);
     if !got.good {
         return;
     }
     let n = got.n;
     let session = opened(chain, block, n);
+    let rest = std::num::wrapping_sub_u64(length, n as u64);
+    let open = true;
     run_all(
-        fd,
+        rt,
+        from,
         path,
         block,
         n,
-        std::num::wrapping_sub_u64(length, n as u64),
+        rest,
         out,
         file,
-        Run {
-            session,
-            open: true,
-        },
+        Run { session, open },
     );
 }
 
 // Answers every event of the capture, which was so long when it was looked at.
-pub fn serve(chain: Chain, file: &mut [u8], path: &[u8], length: u64) {
-    let fd = os::open_read(path);
-    if fd < 0 {
-        os::fail(path);
-        return;
-    }
+pub fn serve<R: Files + Print + Eprint>(
+    rt: &R,
+    chain: Chain,
+    file: &mut [u8],
+    path: &str,
+    length: u64,
+) {
+    let mut from = match fs::open(rt, path) {
+        Ok(from) => from,
+        Err(why) => {
+            fail(rt, path, &why);
+            return;
+        }
+    };
     let mut block = [0u8; PART];
-    let mut out = io::large_buffer();
-    serve_in(chain, file, fd, path, length, &mut block, &mut out);
-    libc::close(fd);
+    let mut out = [0u8; BLOCK];
+    serve_in(
+        rt, chain, file, &mut from, path, length, &mut block, &mut out,
+    );
 }

@@ -2,16 +2,20 @@
 #![tactic(auto)]
 
 mod capture;
+mod host;
 mod stream;
 
 ghost use Rattle.std.specs.Prelude.{◌≤◌, length};
 
 use chain_record::Chain;
 use counts::Place;
-use libc::{STDERR_FILENO, STDOUT_FILENO};
+use host::{WORD, fail, read_full, word, words};
 use pack_profile::Profile;
 use pack_read::Refusal;
 use pack_read::read::Reading;
+use std::io::{ErrorKind, Read};
+use std::rt::Runtime;
+use std::{fs, io};
 
 // The longest pack file that is taken: it lies on the stack.
 const LIMIT: usize = 1_048_576;
@@ -19,64 +23,70 @@ const LIMIT: usize = 1_048_576;
 // The length of two packs of the smallest drive.
 const TWO: usize = 2 * bus_smallest::PACK;
 
-fn complain(text: &[u8]) {
-    io::write_all(STDERR_FILENO, text);
+// The system's number for a descriptor that is not open: std has no kind of error for it.
+const NOT_OPEN: i32 = 9;
+
+// What can't be said on standard error is left unsaid.
+fn complain(rt: &impl Eprint, text: &str) {
+    let _ = rt.eprintln(text);
 }
 
-fn usage() {
-    complain(b"usage: bus [PACK-FILE] < EVENTS, or bus --capture CAPTURE [PACK-FILE]\n");
+fn usage(rt: &impl Eprint) {
+    complain(
+        rt,
+        "usage: bus [PACK-FILE] < EVENTS, or bus --capture CAPTURE [PACK-FILE]",
+    );
 }
 
 // A reader that has gone away is not reported.
-fn complain_unwritten() {
-    let why = os::errno();
-    if why == libc::EPIPE {
+fn complain_unwritten(rt: &impl Eprint, why: &io::Error) {
+    if why.kind() == ErrorKind::BrokenPipe {
         return;
     }
-    if why == libc::EBADF {
+    if why.raw_os_error() == Some(NOT_OPEN) {
         return;
     }
-    os::fail(b"standard output");
+    fail(rt, "standard output", why);
 }
 
 // Writes what waits. Gives whether the reader is still there.
-fn written(out: &[u8], n: usize, open: bool) -> bool
+fn written<R: Print + Eprint>(rt: &R, out: &[u8], n: usize, open: bool) -> bool
     requires { n ≤ length out.now }
 {
     if !open {
         return false;
     }
-    let good = io::write_all(STDOUT_FILENO, &out[..n]);
-    if !good {
-        complain_unwritten();
+    match rt.write_all(&out[..n]) {
+        Ok(()) => true,
+        Err(why) => {
+            complain_unwritten(rt, &why);
+            false
+        }
     }
-    good
 }
 
-fn complain_refused(why: Refusal, place: Place) {
-    complain(b"refused ");
-    io::print_decimal(STDERR_FILENO, pack_read::number(why) as u64);
-    complain(b" at ");
-    io::print_decimal(STDERR_FILENO, place.0 as u64);
-    complain(b"\n");
+fn complain_refused(rt: &impl Eprint, why: Refusal, place: Place) {
+    let number = pack_read::number(why);
+    let at = place.0;
+    let _ = eprintln!(rt; "refused {number} at {at}");
 }
 
 // The events are those of the capture that is named, and is so long, or standard input's where none is.
-fn serve(chain: Chain, file: &mut [u8], events: &[u8], length: u64) {
-    if events.len() == 0 {
-        stream::serve(chain, file);
+fn serve<R: Runtime>(rt: &R, chain: Chain, file: &mut [u8], events: &str, length: u64) {
+    if events.is_empty() {
+        stream::serve(rt, chain, file);
         return;
     }
-    capture::serve(chain, file, events, length);
+    capture::serve(rt, chain, file, events, length);
 }
 
 // Answers the events over a pack file in memory.
-fn run(file: &mut [u8], events: &[u8], length: u64) {
+fn run<R: Runtime>(rt: &R, file: &mut [u8], events: &str, length: u64) {
     let fitted = chain_fit::fit(file);
     let answer = fitted.answer;
     match answer {
-        Reading::Whole => serve(fitted.chain, file, events, length),
-        Reading::Refused(why, place) => complain_refused(why, place),
+        Reading::Whole => serve(rt, fitted.chain, file, events, length),
+        Reading::Refused(why, place) => complain_refused(rt, why, place),
     }
 }
 
@@ -87,139 +97,122 @@ fn lay_at(file: &mut [u8], place: usize, p: Profile)
 }
 
 // The smallest drive in slots 1 and 3.
-fn run_two(file: &mut [u8; TWO], events: &[u8], length: u64) {
+fn run_two<R: Runtime>(rt: &R, file: &mut [u8; TWO], events: &str, length: u64) {
     lay_at(file, 0, bus_smallest::drive(1));
     lay_at(file, bus_smallest::PACK, bus_smallest::drive(3));
-    run(file, events, length);
+    run(rt, file, events, length);
 }
 
-fn run_smallest(events: &[u8], length: u64) {
+fn run_smallest<R: Runtime>(rt: &R, events: &str, length: u64) {
     let mut file = [0u8; TWO];
-    run_two(&mut file, events, length);
+    run_two(rt, &mut file, events, length);
 }
 
 // Whether the file has no byte past those read.
-fn at_end(fd: i32, path: &[u8]) -> bool {
+fn at_end<F: Read>(rt: &impl Eprint, from: &mut F, path: &str) -> bool {
     let mut next = [0u8; 1];
-    let more = libc::read(fd, &mut next);
-    if more == 0 {
-        return true;
+    match from.read(&mut next) {
+        Ok(0) => return true,
+        Ok(_) => {
+            let _ = eprintln!(rt; "{path}: longer than {LIMIT} bytes, the most that is taken");
+        }
+        Err(why) => fail(rt, path, &why),
     }
-    if more < 0 {
-        os::fail(path);
-        return false;
-    }
-    complain(path);
-    complain(b": longer than ");
-    io::print_decimal(STDERR_FILENO, LIMIT as u64);
-    complain(b" bytes, the most that is taken\n");
     false
 }
 
-fn run_open(fd: i32, path: &[u8], room: &mut [u8], events: &[u8], length: u64) {
-    let n = io::read_full(fd, room);
-    let whole = at_end(fd, path);
-    libc::close(fd);
+fn run_open<R: Runtime>(
+    rt: &R,
+    mut from: R::File,
+    path: &str,
+    room: &mut [u8],
+    events: &str,
+    length: u64,
+) {
+    let n = match read_full(&mut from, room) {
+        Ok(n) => n,
+        Err(why) => {
+            fail(rt, path, &why);
+            return;
+        }
+    };
+    let whole = at_end(rt, &mut from, path);
+    drop(from);
     if whole {
-        run(&mut room[..n], events, length);
+        run(rt, &mut room[..n], events, length);
     }
 }
 
-// The room is lent as an array here, so that its length needs no proof.
-fn run_in(fd: i32, path: &[u8], room: &mut [u8; LIMIT], events: &[u8], length: u64) {
-    run_open(fd, path, room, events, length);
-}
-
-fn run_named(path: &[u8], events: &[u8], length: u64) {
-    let fd = os::open_read(path);
-    if fd < 0 {
-        os::fail(path);
-        usage();
-        return;
-    }
+fn run_named<R: Runtime>(rt: &R, path: &str, events: &str, length: u64) {
+    let from = match fs::open(rt, path) {
+        Ok(from) => from,
+        Err(why) => {
+            fail(rt, path, &why);
+            usage(rt);
+            return;
+        }
+    };
     let mut room = [0u8; LIMIT];
-    run_in(fd, path, &mut room, events, length);
-}
-
-// Whether a word is `--capture`.
-fn is_capture(word: &[u8]) -> bool {
-    if word.len() != 9 {
-        return false;
-    }
-    (word[0] == b'-')
-        & (word[1] == b'-')
-        & (word[2] == b'c')
-        & (word[3] == b'a')
-        & (word[4] == b'p')
-        & (word[5] == b't')
-        & (word[6] == b'u')
-        & (word[7] == b'r')
-        & (word[8] == b'e')
+    run_open(rt, from, path, &mut room, events, length);
 }
 
 // The pack file of a capture, where the words name one.
-fn run_captured(words: usize, events: &[u8]) {
-    let found = capture::look(events);
+fn run_captured<R: Runtime>(rt: &R, count: usize, events: &str) {
+    let found = capture::look(rt, events);
     if !found.good {
         return;
     }
-    if words == 3 {
-        run_smallest(events, found.length);
+    if count == 3 {
+        run_smallest(rt, events, found.length);
         return;
     }
-    let mut path = io::buffer();
-    let n = os::arg(3, &mut path);
-    if os::errno() != 0 {
-        os::fail(b"path");
-        usage();
+    let mut room = [0u8; WORD];
+    let Some(path) = word(rt, 3, &mut room) else {
+        usage(rt);
         return;
-    }
-    run_named(&path[..n], events, found.length);
+    };
+    run_named(rt, path, events, found.length);
 }
 
-fn start_capture(words: usize) {
-    if words < 3 {
-        complain(b"bus: no capture\n");
-        usage();
+fn start_capture<R: Runtime>(rt: &R, count: usize) {
+    if count < 3 {
+        complain(rt, "bus: no capture");
+        usage(rt);
         return;
     }
-    if words > 4 {
-        complain(b"bus: more than two files\n");
-        usage();
+    if count > 4 {
+        complain(rt, "bus: more than two files");
+        usage(rt);
         return;
     }
-    let mut path = io::buffer();
-    let n = os::arg(2, &mut path);
-    if os::errno() != 0 {
-        os::fail(b"path");
-        usage();
+    let mut room = [0u8; WORD];
+    let Some(path) = word(rt, 2, &mut room) else {
+        usage(rt);
         return;
-    }
-    run_captured(words, &path[..n]);
+    };
+    run_captured(rt, count, path);
 }
 
 // The whole program: no argument, or the path of a pack file; or a capture and perhaps a pack file.
-pub fn start() {
-    let words = os::arg_count();
-    if words < 2 {
-        run_smallest(b"", 0);
+pub fn start<R: Runtime>(rt: &R) {
+    let count = words(rt, 5);
+    if count < 2 {
+        run_smallest(rt, "", 0);
         return;
     }
-    let mut word = io::buffer();
-    let n = os::arg(1, &mut word);
-    if os::errno() != 0 {
-        os::fail(b"path");
-        usage();
+    let mut room = [0u8; WORD];
+    let Some(path) = word(rt, 1, &mut room) else {
+        usage(rt);
+        return;
+    };
+    if path == "--capture" {
+        start_capture(rt, count);
         return;
     }
-    if is_capture(&word[..n]) {
-        start_capture(words);
+    if count > 2 {
+        complain(rt, "bus: more than one argument");
+        usage(rt);
         return;
     }
-    if words > 2 {
-        complain(b"bus: more than one argument\n");
-        usage();
-        return;
-    }
-    run_named(&word[..n], b"", 0);
+    run_named(rt, path, "", 0);
 }

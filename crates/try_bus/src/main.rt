@@ -1,6 +1,6 @@
 // The bus runner again, over a pack file and a longer input.
 #![tactic(auto)]
 
-fn main() {
-    bus_runner::start();
+fn main(rt: HostRuntime) {
+    bus_runner::start(&rt);
 }

@@ -2,6 +2,6 @@
 // runner, 5 passing while the stamp runs over, and select 1 as the block's last sample; at last 65,536 passing, which are two events.
 #![tactic(auto)]
 
-fn main() {
-    bus_runner::start();
+fn main(rt: HostRuntime) {
+    bus_runner::start(&rt);
 }
