@@ -143,6 +143,18 @@ fn run_open<R: Runtime>(
     }
 }
 
+// The room is lent as an array here, so that its length needs no proof.
+fn run_in<R: Runtime>(
+    rt: &R,
+    from: R::File,
+    path: &str,
+    room: &mut [u8; LIMIT],
+    events: &str,
+    length: u64,
+) {
+    run_open(rt, from, path, room, events, length);
+}
+
 fn run_named<R: Runtime>(rt: &R, path: &str, events: &str, length: u64) {
     let from = match fs::open(rt, path) {
         Ok(from) => from,
@@ -153,7 +165,7 @@ fn run_named<R: Runtime>(rt: &R, path: &str, events: &str, length: u64) {
         }
     };
     let mut room = [0u8; LIMIT];
-    run_open(rt, from, path, &mut room, events, length);
+    run_in(rt, from, path, &mut room, events, length);
 }
 
 // The pack file of a capture, where the words name one.
