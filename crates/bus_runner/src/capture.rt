@@ -3,7 +3,7 @@ ghost use Rattle.std.specs.Prelude.{◌≡◌, ◌≤◌, true, length, take};
 ghost use Rattle.capture_samples.specs.Samples.{good_bytes};
 ghost use Rattle.bus_capture.specs.Parts.{session_after, file_after};
 
-use crate::host::{fail, read_full};
+use crate::system::{fail, read_full};
 use crate::{usage, written};
 use bus_capture::Session;
 use bus_output::BLOCK;

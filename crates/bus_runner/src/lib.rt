@@ -2,20 +2,20 @@
 #![tactic(auto)]
 
 mod capture;
-mod host;
 mod stream;
+mod system;
 
 ghost use Rattle.std.specs.Prelude.{◌≤◌, length};
 
 use chain_record::Chain;
 use counts::Place;
-use host::{WORD, fail, read_full, word, words};
 use pack_profile::Profile;
 use pack_read::Refusal;
 use pack_read::read::Reading;
 use std::io::{ErrorKind, Read};
 use std::rt::Runtime;
 use std::{fs, io};
+use system::{WORD, fail, read_full, word, words};
 
 // The longest pack file that is taken: it lies on the stack.
 const LIMIT: usize = 1_048_576;
@@ -168,6 +168,10 @@ fn run_named<R: Runtime>(rt: &R, path: &str, events: &str, length: u64) {
     run_in(rt, from, path, &mut room, events, length);
 }
 
+fn is_capture(word: &str) -> bool {
+    word == "--capture"
+}
+
 // The pack file of a capture, where the words name one.
 fn run_captured<R: Runtime>(rt: &R, count: usize, events: &str) {
     let found = capture::look(rt, events);
@@ -213,11 +217,11 @@ pub fn start<R: Runtime>(rt: &R) {
         return;
     }
     let mut room = [0u8; WORD];
-    let Some(path) = word(rt, 1, &mut room) else {
+    let Some(first) = word(rt, 1, &mut room) else {
         usage(rt);
         return;
     };
-    if path == "--capture" {
+    if is_capture(first) {
         start_capture(rt, count);
         return;
     }
@@ -226,5 +230,5 @@ pub fn start<R: Runtime>(rt: &R) {
         usage(rt);
         return;
     }
-    run_named(rt, path, "", 0);
+    run_named(rt, first, "", 0);
 }

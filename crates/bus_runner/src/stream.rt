@@ -3,7 +3,7 @@ ghost use Rattle.std.specs.Prelude.{◌≡◌, ◌≤◌, [], length, take};
 ghost use Rattle.bus_stream.specs.Stream.{stream_of, fed_bytes};
 ghost use Rattle.bus_output.specs.Output.{block_length};
 
-use crate::host::fail;
+use crate::system::fail;
 use crate::written;
 use bus_output::BLOCK;
 use bus_stream::Session;
@@ -80,16 +80,27 @@ fn run_all<R: Print + Eprint, I: Read>(
     r
 }
 
+fn serve_in<R: Print + Eprint, I: Read>(
+    rt: &R,
+    chain: Chain,
+    file: &mut [u8],
+    input: &mut I,
+    block: &mut [u8; BLOCK],
+    out: &mut [u8; BLOCK],
+) {
+    let first = Run {
+        session: bus_stream::opened(chain),
+        open: true,
+    };
+    let r = run_all(rt, input, block, out, file, first);
+    let n = bus_stream::close(out, file, r.session);
+    written(rt, out, n, r.open);
+}
+
 // Answers every line of standard input.
 pub fn serve<R: Input + Print + Eprint>(rt: &R, chain: Chain, file: &mut [u8]) {
     let mut input = rt.reader();
     let mut block = [0u8; BLOCK];
     let mut out = [0u8; BLOCK];
-    let first = Run {
-        session: bus_stream::opened(chain),
-        open: true,
-    };
-    let r = run_all(rt, &mut input, &mut block, &mut out, file, first);
-    let n = bus_stream::close(&mut out, file, r.session);
-    written(rt, &out, n, r.open);
+    serve_in(rt, chain, file, &mut input, &mut block, &mut out);
 }

@@ -1,5 +1,6 @@
-// What the runner asks of its host: the words that it was started with, the bytes of files, and a line where either fails.
-ghost use Rattle.std.specs.Prelude.{◌≤◌, length, IfOk};
+// What the runner asks of the system: the words that it was started with, the bytes of files, and a line where either fails.
+ghost use Rattle.std.specs.Prelude.{◌<◌, ◌≤◌, length, take, IfOk};
+ghost use Rattle.std.specs.Io.KnownBytes.{Consumes, IsAtEnd};
 
 use std::env::FillError;
 use std::io::{Cursor, Read, Write};
@@ -29,8 +30,10 @@ pub fn fail(rt: &impl Eprint, what: &str, error: &io::Error) {
     let _ = eprintln!(rt; "{what}: {why}");
 }
 
-// How many words there are, the program's own name among them; more than most are not counted.
-pub fn words<R: Env>(rt: &R, most: usize) -> usize {
+// How many words there are, the program's own name among them, counted no further than asked.
+pub fn words<R: Env>(rt: &R, most: usize) -> usize
+    ensures { result ≤ most }
+{
     let mut next = [0u8; 1];
     for i in 0..most {
         if let Err(FillError::NotPresent) = rt.arg(i, &mut next) {
@@ -56,7 +59,9 @@ pub fn word<'a, R: Env + Eprint>(rt: &R, i: usize, room: &'a mut [u8; WORD]) -> 
 
 // Reads until the room is full or the file ends.
 pub fn read_full<F: Read>(from: &mut F, room: &mut [u8]) -> io::Result<usize>
-    ensures { IfOk result (λ n. n ≤ length room.new) }
+    ensures within { IfOk result (λ n. n ≤ length room.new) }
+    ensures bytes { IfOk result (λ n. Consumes (F.remaining from.old) (F.remaining from.new) (take n room.new)) }
+    ensures end { IfOk result (λ n. n < length room.new → IsAtEnd (F.remaining from.new)) }
 {
     let mut done = 0;
     while done < room.len() {
