@@ -6,11 +6,11 @@
 ghost use Rattle.std.specs.Prelude.{◌+◌, ◌≤◌};
 
 use counts::{Cylinder, Heads, Position, SectorSize};
-use libc::STDOUT_FILENO;
 use pack_lay::stages;
 use pack_lay::stages::Stage;
 use pack_profile::{Profile, Shape};
 use pack_read::read;
+use std::io;
 
 // Room for two packs of the smallest drive, and for one of a longer track.
 const CARD: usize = 2 * bus_smallest::PACK;
@@ -28,17 +28,16 @@ struct Seen {
     finished: u8,
 }
 
-fn say(text: &[u8]) {
-    io::write_all(STDOUT_FILENO, text);
+fn say(rt: &impl Print, text: &str) -> io::Result<()> {
+    rt.print(text)
 }
 
-fn say_number(n: u32) {
-    say(b" ");
-    io::print_decimal(STDOUT_FILENO, n as u64);
+fn say_number(rt: &impl Print, n: u32) -> io::Result<()> {
+    print!(rt; " {n}")
 }
 
-fn end_line() {
-    say(b"\n");
+fn end_line(rt: &impl Print) -> io::Result<()> {
+    say(rt, "\n")
 }
 
 // A drive of one head, with so many tracks of so many bytes.
@@ -82,43 +81,50 @@ fn alike(a: Seen, b: Seen) -> bool {
     (a.number == b.number) & (a.place == b.place) & (a.finished == b.finished)
 }
 
-fn say_slots(card: &[u8; CARD]) {
+fn say_slots(rt: &impl Print, card: &[u8; CARD]) -> io::Result<()> {
     let found = read::read(card);
-    say(b" packs");
+    say(rt, " packs")?;
     for i in 0..7 {
         if found.slots[i].fitted == 1 {
-            say_number(i as u32 + 1);
+            say_number(rt, i as u32 + 1)?;
         }
     }
+    Ok(())
 }
 
-fn say_finished(finished: u8) {
+fn say_finished(rt: &impl Print, finished: u8) -> io::Result<()> {
     if finished == 1 {
-        say(b" finished");
-        return;
+        return say(rt, " finished");
     }
-    say(b" not finished");
+    say(rt, " not finished")
 }
 
-fn show(name: &[u8], write: u32, card: &[u8; CARD], seen: Seen) {
-    say(name);
-    say_number(write);
-    say_number(seen.number as u32);
-    say_number(seen.place);
+fn show(rt: &impl Print, name: &str, write: u32, card: &[u8; CARD], seen: Seen) -> io::Result<()> {
+    say(rt, name)?;
+    say_number(rt, write)?;
+    say_number(rt, seen.number as u32)?;
+    say_number(rt, seen.place)?;
     if seen.number == 0 {
-        say_slots(card);
-        say_finished(seen.finished);
+        say_slots(rt, card)?;
+        say_finished(rt, seen.finished)?;
     }
-    end_line();
+    end_line(rt)
 }
 
 // What reading says now, printed where it is not what it said before.
-fn told(name: &[u8], write: u32, card: &[u8; CARD], done: &[u8; CARD], last: Seen) -> Seen {
+fn told(
+    rt: &impl Print,
+    name: &str,
+    write: u32,
+    card: &[u8; CARD],
+    done: &[u8; CARD],
+    last: Seen,
+) -> io::Result<Seen> {
     let seen = look(card, done);
     if !alike(seen, last) {
-        show(name, write, card, seen);
+        show(rt, name, write, card, seen)?;
     }
-    seen
+    Ok(seen)
 }
 
 // No reading says this, so that the first write of a stage is always told.
@@ -130,65 +136,53 @@ fn nothing() -> Seen {
     }
 }
 
-fn copied(card: &[u8; CARD]) -> [u8; CARD] {
-    let mut again = [0u8; CARD];
-    bytes::copy(card, &mut again);
-    again
-}
-
 // A stage as the library lays it, write by write on the card, in the order of its places: count from at on.
-fn pull(card: &mut [u8; CARD], done: &[u8; CARD], s: Stage, name: &[u8], at: usize, count: usize)
+fn pull(
+    rt: &impl Print,
+    card: &mut [u8; CARD],
+    done: &[u8; CARD],
+    s: Stage,
+    name: &str,
+    at: usize,
+    count: usize,
+) -> io::Result<()>
     requires { at + count ≤ 8278 }
 {
-    let mut next = copied(card);
+    let mut next = *card;
     stages::lay_stage(whole(), s, &mut next);
     let mut seen = nothing();
-    let mut i = 0;
-    while i < count {
+    for i in 0..count {
         card[at + i] = next[at + i];
-        i += 1;
-        seen = told(name, i as u32, card, done, seen);
+        seen = told(rt, name, i as u32 + 1, card, done, seen)?;
     }
     if same(card, &next) == 0 {
-        say(name);
-        say(b" wrote past its stretch\n");
+        say(rt, name)?;
+        say(rt, " wrote past its stretch\n")?;
     }
+    Ok(())
 }
 
-fn pull_medium(card: &mut [u8; CARD], done: &[u8; CARD]) {
-    pull(card, done, Stage::Medium, b"medium", 0, MEDIUM);
+fn pull_medium(rt: &impl Print, card: &mut [u8; CARD], done: &[u8; CARD]) -> io::Result<()> {
+    pull(rt, card, done, Stage::Medium, "medium", 0, MEDIUM)
 }
 
 // Every stage in its order, on a card as it was.
-fn pull_all(heading: &[u8], card: &mut [u8; CARD], done: &[u8; CARD]) {
-    say(heading);
-    end_line();
-    told(b"before", 0, card, done, nothing());
-    pull(
-        card,
-        done,
-        Stage::Spoil,
-        b"spoil",
-        MEDIUM + pack_trailer::FORM_PLACE,
-        1,
-    );
-    pull_medium(card, done);
-    pull(
-        card,
-        done,
-        Stage::Fields,
-        b"fields",
-        MEDIUM,
-        pack_trailer::DISTANCE_PLACE,
-    );
-    pull(
-        card,
-        done,
-        Stage::Distance,
-        b"distance",
-        MEDIUM + pack_trailer::DISTANCE_PLACE,
-        4,
-    );
+fn pull_all(
+    rt: &impl Print,
+    heading: &str,
+    card: &mut [u8; CARD],
+    done: &[u8; CARD],
+) -> io::Result<()> {
+    say(rt, heading)?;
+    end_line(rt)?;
+    told(rt, "before", 0, card, done, nothing())?;
+    let form = MEDIUM + pack_trailer::FORM_PLACE;
+    pull(rt, card, done, Stage::Spoil, "spoil", form, 1)?;
+    pull_medium(rt, card, done)?;
+    let fields = pack_trailer::DISTANCE_PLACE;
+    pull(rt, card, done, Stage::Fields, "fields", MEDIUM, fields)?;
+    let distance = MEDIUM + fields;
+    pull(rt, card, done, Stage::Distance, "distance", distance, 4)
 }
 
 // A card with a drawing on a pack of that drive.
@@ -196,7 +190,7 @@ fn drawn(p: Profile) -> [u8; CARD] {
     let mut card = [DRAWING; CARD];
     let mut laid = [0u8; CARD];
     pack_lay::lay(p, &mut laid);
-    bytes::copy(&laid[MEDIUM..], &mut card[MEDIUM..]);
+    card[MEDIUM..].copy_from_slice(&laid[MEDIUM..]);
     card
 }
 
@@ -226,42 +220,44 @@ fn untouched(part: &[u8]) -> u8 {
 }
 
 // What a stage answers that is refused, and whether the part is as it was.
-fn refuse(part: &mut [u8], p: Profile, s: Stage) {
-    say_number(pack_lay::number(stages::lay_stage(p, s, part)) as u32);
-    say_number(untouched(part) as u32);
+fn refuse(rt: &impl Print, part: &mut [u8], p: Profile, s: Stage) -> io::Result<()> {
+    say_number(rt, pack_lay::number(stages::lay_stage(p, s, part)) as u32)?;
+    say_number(rt, untouched(part) as u32)
 }
 
-fn refuse_all(heading: &[u8], part: &mut [u8], p: Profile) {
-    say(heading);
-    refuse(part, p, Stage::Spoil);
-    refuse(part, p, Stage::Medium);
-    refuse(part, p, Stage::Fields);
-    refuse(part, p, Stage::Distance);
-    end_line();
+fn refuse_all(rt: &impl Print, heading: &str, part: &mut [u8], p: Profile) -> io::Result<()> {
+    say(rt, heading)?;
+    refuse(rt, part, p, Stage::Spoil)?;
+    refuse(rt, part, p, Stage::Medium)?;
+    refuse(rt, part, p, Stage::Fields)?;
+    refuse(rt, part, p, Stage::Distance)?;
+    end_line(rt)
 }
 
-fn main() {
+fn main(rt: HostRuntime) -> io::Result<()> {
     let mut done = [0u8; CARD];
     pack_lay::lay(whole(), &mut done);
-    pull_all(b"a zeroed card", &mut [0u8; CARD], &done);
-    pull_all(b"garbage", &mut garbage(), &done);
+    pull_all(&rt, "a zeroed card", &mut [0u8; CARD], &done)?;
+    pull_all(&rt, "garbage", &mut garbage(), &done)?;
     pull_all(
-        b"an older pack of the same shape",
+        &rt,
+        "an older pack of the same shape",
         &mut drawn(drive(3, 1, MEDIUM as u16)),
         &done,
-    );
+    )?;
     pull_all(
-        b"an older pack of another shape and the same length",
+        &rt,
+        "an older pack of another shape and the same length",
         &mut drawn(drive(3, 2, (MEDIUM / 2) as u16)),
         &done,
-    );
-    pull_all(b"two older packs", &mut two(), &done);
-    say(b"an older pack of the same shape, its form not spoiled\n");
-    pull_medium(&mut drawn(drive(3, 1, MEDIUM as u16)), &done);
-    refuse_all(b"too little room", &mut [DRAWING; CARD - 1], whole());
-    refuse_all(
-        b"no such slot",
-        &mut [DRAWING; CARD],
-        drive(0, 1, MEDIUM as u16),
-    );
+    )?;
+    pull_all(&rt, "two older packs", &mut two(), &done)?;
+    say(
+        &rt,
+        "an older pack of the same shape, its form not spoiled\n",
+    )?;
+    pull_medium(&rt, &mut drawn(drive(3, 1, MEDIUM as u16)), &done)?;
+    refuse_all(&rt, "too little room", &mut [DRAWING; CARD - 1], whole())?;
+    let no_slot = drive(0, 1, MEDIUM as u16);
+    refuse_all(&rt, "no such slot", &mut [DRAWING; CARD], no_slot)
 }

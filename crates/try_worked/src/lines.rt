@@ -2,108 +2,103 @@
 // that is its latched bits, cylinder, offset, lost, motor, busy, head timer, sector size, reading, writing, standing, and its transfer's way.
 use crate::drives;
 use drive_record::{Body, State};
-use libc::STDOUT_FILENO;
+use std::io;
 use word_rules::{Answered, Carried, Told};
 
-fn put(text: &[u8]) {
-    io::write_all(STDOUT_FILENO, text);
+fn put(rt: &impl Print, text: &str) -> io::Result<()> {
+    rt.print(text)
 }
 
 // A number, with the space in front of it.
-fn number(n: u32) {
-    put(b" ");
-    io::print_decimal(STDOUT_FILENO, n as u64);
+fn number(rt: &impl Print, n: u32) -> io::Result<()> {
+    print!(rt; " {n}")
 }
 
 // Sixteen bits and their parity.
-fn word_of(n: u32) {
-    put(b" ");
-    io::print_hex(STDOUT_FILENO, (n / 2 % 65_536) as u64, 4);
-    number(n % 2);
+fn word_of(rt: &impl Print, n: u32) -> io::Result<()> {
+    let word = n / 2 % 65_536;
+    print!(rt; " {word:04x} {}", n % 2)
 }
 
-fn end() {
-    put(b"\n");
+fn end(rt: &impl Print) -> io::Result<()> {
+    put(rt, "\n")
 }
 
-pub fn title(text: &[u8]) {
-    put(b"# ");
-    put(text);
-    end();
+pub fn title(rt: &impl Print, text: &str) -> io::Result<()> {
+    println!(rt; "# {text}")
 }
 
-fn drive_name(drive: u8) {
+fn drive_name(drive: u8) -> &'static str {
     match drive {
-        drives::HARD => put(b"hard"),
-        drives::SOFT => put(b"soft"),
-        drives::BARE => put(b"bare"),
-        drives::WIDE => put(b"wide"),
-        _ => put(b"removable"),
+        drives::HARD => "hard",
+        drives::SOFT => "soft",
+        drives::BARE => "bare",
+        drives::WIDE => "wide",
+        _ => "removable",
     }
 }
 
 // The states in which command complete is false, or which read or write.
-fn incomplete_name(how: u8) {
+fn incomplete_name(how: u8) -> &'static str {
     match how {
-        drives::STARTING => put(b" starting"),
-        drives::BUSY => put(b" busy"),
-        drives::SWITCHING => put(b" switching"),
-        drives::READING => put(b" reading"),
-        drives::WRITING => put(b" writing"),
-        _ => put(b" open"),
+        drives::STARTING => "starting",
+        drives::BUSY => "busy",
+        drives::SWITCHING => "switching",
+        drives::READING => "reading",
+        drives::WRITING => "writing",
+        _ => "open",
     }
 }
 
-fn state_name(how: u8) {
+fn state_name(how: u8) -> &'static str {
     match how {
-        drives::FRESH => put(b" fresh"),
-        drives::STOPPED => put(b" stopped"),
-        drives::LOST => put(b" lost"),
-        drives::AWAY => put(b" away"),
-        drives::SET => put(b" set"),
-        drives::LATCHED => put(b" latched"),
-        drives::STANDING => put(b" standing"),
+        drives::FRESH => "fresh",
+        drives::STOPPED => "stopped",
+        drives::LOST => "lost",
+        drives::AWAY => "away",
+        drives::SET => "set",
+        drives::LATCHED => "latched",
+        drives::STANDING => "standing",
         _ => incomplete_name(how),
     }
 }
 
-fn told_bits(n: u32) {
-    put(b":");
-    word_of(n);
+fn told_bits(rt: &impl Print, n: u32) -> io::Result<()> {
+    put(rt, ":")?;
+    word_of(rt, n)
 }
 
-fn told_word(told: Told) {
+fn told_word(rt: &impl Print, told: Told) -> io::Result<()> {
     match told {
-        Told::Nothing => put(b": -"),
-        Told::Word(n) => told_bits(n),
+        Told::Nothing => put(rt, ": -"),
+        Told::Word(n) => told_bits(rt, n),
     }
 }
 
-fn body_left(b: Body) {
-    put(b" | ");
-    io::print_hex(STDOUT_FILENO, b.latched.0 as u64, 4);
-    number(b.arm.cylinder.0 as u32);
-    number(b.arm.offset as u32);
-    number(b.arm.lost as u32);
-    number(b.motor as u32);
-    number(b.timers.busy.0);
-    number(b.timers.head.0);
-    number(b.sector.0 as u32);
-    number(b.reading as u32);
-    number(b.writing as u32);
-    number(b.standing);
+fn body_left(rt: &impl Print, b: Body) -> io::Result<()> {
+    let latched = b.latched.0;
+    print!(rt; " | {latched:04x}")?;
+    number(rt, b.arm.cylinder.0 as u32)?;
+    number(rt, b.arm.offset as u32)?;
+    number(rt, b.arm.lost as u32)?;
+    number(rt, b.motor as u32)?;
+    number(rt, b.timers.busy.0)?;
+    number(rt, b.timers.head.0)?;
+    number(rt, b.sector.0 as u32)?;
+    number(rt, b.reading as u32)?;
+    number(rt, b.writing as u32)?;
+    number(rt, b.standing)
 }
 
-fn state_left(s: State) {
-    body_left(s.body);
-    number(s.transfer.way as u32);
-    end();
+fn state_left(rt: &impl Print, s: State) -> io::Result<()> {
+    body_left(rt, s.body)?;
+    number(rt, s.transfer.way as u32)?;
+    end(rt)
 }
 
-fn sent(drive: u8, how: u8, n: u32) {
-    drive_name(drive);
-    state_name(how);
-    word_of(n);
+fn sent(rt: &impl Print, drive: u8, how: u8, n: u32) -> io::Result<()> {
+    print!(rt; "{} {}", drive_name(drive), state_name(how))?;
+    word_of(rt, n)
 }
 
 fn plainly(drive: u8, how: u8, n: u32) -> Answered {
@@ -117,26 +112,26 @@ fn carrying(drive: u8, how: u8, n: u32) -> Carried {
 }
 
 // Seventeen bits by the plain word rules.
-pub fn send_bits(drive: u8, how: u8, n: u32) {
+pub fn send_bits(rt: &impl Print, drive: u8, how: u8, n: u32) -> io::Result<()> {
     let a = plainly(drive, how, n);
     let told = a.told;
-    sent(drive, how, n);
-    told_word(told);
-    state_left(a.state);
+    sent(rt, drive, how, n)?;
+    told_word(rt, told)?;
+    state_left(rt, a.state)
 }
 
 // Sixteen bits with the parity that they need.
-pub fn send(drive: u8, how: u8, w: u16) {
-    send_bits(drive, how, word_rules::responses::with_parity(w));
+pub fn send(rt: &impl Print, drive: u8, how: u8, w: u16) -> io::Result<()> {
+    send_bits(rt, drive, how, word_rules::responses::with_parity(w))
 }
 
 // The same carried out at the end of a transfer, whatever the drive is doing.
-pub fn carry_out(drive: u8, how: u8, w: u16) {
+pub fn carry_out(rt: &impl Print, drive: u8, how: u8, w: u16) -> io::Result<()> {
     let n = word_rules::responses::with_parity(w);
     let c = carrying(drive, how, n);
     let told = c.told;
-    sent(drive, how, n);
-    told_word(told);
-    body_left(c.body);
-    end();
+    sent(rt, drive, how, n)?;
+    told_word(rt, told)?;
+    body_left(rt, c.body)?;
+    end(rt)
 }

@@ -5,20 +5,22 @@ mod cases;
 mod drives;
 mod lines;
 
-fn main() {
-    cases::configurations();
-    cases::sector_sizes();
-    cases::gaps();
-    cases::codes();
-    cases::seeks();
-    cases::neighbours();
-    cases::options();
-    cases::responses();
-    cases::order();
-    cases::stopped();
-    cases::starting();
-    cases::lost();
-    cases::incomplete();
-    cases::clearing();
-    cases::standing();
+use std::io;
+
+fn main(rt: HostRuntime) -> io::Result<()> {
+    cases::configurations(&rt)?;
+    cases::sector_sizes(&rt)?;
+    cases::gaps(&rt)?;
+    cases::codes(&rt)?;
+    cases::seeks(&rt)?;
+    cases::neighbours(&rt)?;
+    cases::options(&rt)?;
+    cases::responses(&rt)?;
+    cases::order(&rt)?;
+    cases::stopped(&rt)?;
+    cases::starting(&rt)?;
+    cases::lost(&rt)?;
+    cases::incomplete(&rt)?;
+    cases::clearing(&rt)?;
+    cases::standing(&rt)
 }
