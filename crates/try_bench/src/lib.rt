@@ -7,7 +7,6 @@ pub mod play;
 pub mod tally;
 
 ghost use Rattle.std.specs.Prelude.{◌≤◌, length};
-ghost use Rattle.io.specs.Counts.{IsPrefixLen};
 
 use bus_reply::Reply;
 use chain_record::Chain;
@@ -83,17 +82,15 @@ fn lay_slot(file: &mut [u8; ROOM], at: usize, which: u8, slot: u8) -> usize {
 // Lays the packs of a chain, slot after slot, and gives the file's length.
 fn lay_all(file: &mut [u8; ROOM], which: u8) -> usize {
     let mut at = 0;
-    let mut slot: u8 = 1;
-    while slot < 8 {
+    for slot in 1..8 {
         at = lay_slot(file, at, which, slot);
-        slot += 1;
     }
     at
 }
 
-// So many bytes of the room, or all that there are. The contract speaks of the room, so that `&file[..n]` wants no proof.
+// So many bytes of the room, or all that there are.
 fn at_most(file: &[u8], n: usize) -> usize
-    ensures { IsPrefixLen result file.now }
+    ensures { result ≤ length file.now }
 {
     if n > file.len() {
         return file.len();

@@ -103,13 +103,11 @@ fn bits(p: Play, file: &mut [u8; ROOM], way: u8, word: u32, count: u32) -> Play 
     let mut before = shown::line_sum(p.bench.chain);
     let open = open_sum(before);
     let mut n = word;
-    let mut left = count;
-    while left > 0 {
+    for i in 0..count {
         q = risen(q, file, way, n / 65_536 % 2, before, open);
-        q = fallen(q, file, open, left == 1);
+        q = fallen(q, file, open, i + 1 == count);
         before = open;
         n = n % 65_536 * 2;
-        left -= 1;
     }
     q
 }

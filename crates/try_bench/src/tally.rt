@@ -1,5 +1,5 @@
 // How many events of each kind were played, and how many answers of each number came.
-use libc::STDOUT_FILENO;
+use std::io;
 
 const KINDS: usize = 9;
 
@@ -20,18 +20,17 @@ impl Tally {
     }
 }
 
-pub fn say(text: &[u8]) {
-    io::write_all(STDOUT_FILENO, text);
+pub fn say(rt: &impl Print, text: &[u8]) -> io::Result<()> {
+    rt.write_all(text)
 }
 
 // A number, with the space in front of it.
-pub fn say_number(n: u32) {
-    say(b" ");
-    io::print_decimal(STDOUT_FILENO, n as u64);
+pub fn say_number(rt: &impl Print, n: u32) -> io::Result<()> {
+    print!(rt; " {n}")
 }
 
 pub fn one_more(n: u32) -> u32 {
-    std::num::wrapping_add_u32(n, 1)
+    n.wrapping_add(1)
 }
 
 // One more of a number; one that is not counted changes nothing.
@@ -49,27 +48,23 @@ pub fn counted(t: Tally, kind: u32, answer: u8) -> Tally {
     Tally { kinds, answers }
 }
 
-fn say_each(name: &[u8], i: usize, n: u32) {
-    say(name);
-    say_number((i % 100) as u32);
-    say(b":");
-    say_number(n);
-    say(b"\n");
+fn say_each(rt: &impl Print, name: &str, i: usize, n: u32) -> io::Result<()> {
+    println!(rt; "{name} {i}: {n}")
 }
 
 // Those that came at all.
-fn say_counts(name: &[u8], counts: &[u32]) {
-    for i in 0..counts.len() {
-        let n = counts[i];
-        if n > 0 {
-            say_each(name, i, n);
+fn say_counts(rt: &impl Print, name: &str, counts: &[u32]) -> io::Result<()> {
+    for (i, n) in counts.iter().enumerate() {
+        if *n > 0 {
+            say_each(rt, name, i, *n)?;
         }
     }
+    Ok(())
 }
 
-pub fn say_all(t: Tally) {
+pub fn say_all(rt: &impl Print, t: Tally) -> io::Result<()> {
     let kinds = t.kinds;
     let answers = t.answers;
-    say_counts(b"kind", &kinds);
-    say_counts(b"answer", &answers);
+    say_counts(rt, "kind", &kinds)?;
+    say_counts(rt, "answer", &answers)
 }

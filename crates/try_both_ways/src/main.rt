@@ -8,8 +8,8 @@ mod ways;
 
 use chain_record::Chain;
 use drive_record::{Body, Latched, State};
-use libc::STDOUT_FILENO;
 use random::{below, next};
+use std::io;
 use try_bench::plain::Answered;
 use try_bench::{Bench, CONDITION, HEADS, PASS, ROOM, SELECT, drives, plain};
 use ways::Sent;
@@ -52,10 +52,8 @@ fn event(b: Bench, file: &mut [u8; ROOM], kind: u32, a: u32, c: u32) -> Bench {
 // As long as the longest time that a drive may be busy.
 fn long_wait(b: Bench, file: &mut [u8; ROOM]) -> Bench {
     let mut after = b;
-    let mut left: u32 = 460;
-    while left > 0 {
+    for _ in 0..460 {
         after = event(after, file, PASS, 65_535, 0);
-        left -= 1;
     }
     after
 }
@@ -121,7 +119,7 @@ fn seventeen(word: u32, r: u64) -> u32 {
 
 fn one_more(n: u32, on: bool) -> u32 {
     if on {
-        return std::num::wrapping_add_u32(n, 1);
+        return n.wrapping_add(1);
     }
     n
 }
@@ -208,31 +206,28 @@ fn turn(r: Run, file: &mut [u8; ROOM]) -> Run {
 
 fn send_all(file: &mut [u8; ROOM], first: Run) -> Run {
     let mut r = first;
-    let mut left = WORDS;
-    while left > 0 {
+    for _ in 0..WORDS {
         r = turn(r, file);
-        left -= 1;
     }
     r
 }
 
-fn say(name: &[u8], n: u32) {
-    io::write_all(STDOUT_FILENO, name);
-    io::print_decimal(STDOUT_FILENO, n as u64);
+fn say(rt: &impl Print, name: &str, n: u32) -> io::Result<()> {
+    print!(rt; "{name}{n}")
 }
 
-fn say_totals(t: Totals) {
-    say(b"words ", WORDS);
-    say(b", refused ", t.refused);
-    say(b", bit 7 ", t.parity);
-    say(b", bit 5 ", t.invalid);
-    say(b", bit 4 ", t.seek);
-    say(b", responses ", t.responses);
-    say(b", to stopped drives ", t.stopped);
-    say(b", to lost ones ", t.lost);
-    say(b", with a fault standing ", t.standing);
-    say(b", differences ", t.differences);
-    io::write_all(STDOUT_FILENO, b"\n");
+fn say_totals(rt: &impl Print, t: Totals) -> io::Result<()> {
+    say(rt, "words ", WORDS)?;
+    say(rt, ", refused ", t.refused)?;
+    say(rt, ", bit 7 ", t.parity)?;
+    say(rt, ", bit 5 ", t.invalid)?;
+    say(rt, ", bit 4 ", t.seek)?;
+    say(rt, ", responses ", t.responses)?;
+    say(rt, ", to stopped drives ", t.stopped)?;
+    say(rt, ", to lost ones ", t.lost)?;
+    say(rt, ", with a fault standing ", t.standing)?;
+    say(rt, ", differences ", t.differences)?;
+    println!(rt)
 }
 
 fn no_totals() -> Totals {
@@ -249,7 +244,7 @@ fn no_totals() -> Totals {
     }
 }
 
-fn main() {
+fn main(rt: HostRuntime) -> io::Result<()> {
     let mut file = [0u8; ROOM];
     let first = Run {
         bench: try_bench::fresh_chain(&mut file, drives::MIXED),
@@ -257,5 +252,5 @@ fn main() {
         totals: no_totals(),
     };
     let last = send_all(&mut file, first);
-    say_totals(last.totals);
+    say_totals(&rt, last.totals)
 }

@@ -56,7 +56,7 @@ fn fallen(b: Bench, file: &mut [u8; ROOM], bits: u32) -> Sent {
 fn pulse(p: Sent, file: &mut [u8; ROOM], level: u32, seed: u64, k: u32) -> Sent {
     let low = waited(p.bench, file, seed, k);
     let up = risen(low, file, level);
-    let high = waited(up.bench, file, seed, std::num::wrapping_add_u32(k, 1));
+    let high = waited(up.bench, file, seed, k.wrapping_add(1));
     let bit = (up.told.sum / STATUS % 2) as u32;
     fallen(high, file, p.bits % 65_536 * 2 + bit)
 }
@@ -66,12 +66,10 @@ fn pulses(p: Sent, file: &mut [u8; ROOM], word: u32, seed: u64, from: u32, count
     let mut q = p;
     let mut n = word;
     let mut k = from;
-    let mut left = count;
-    while left > 0 {
+    for _ in 0..count {
         n = n % 65_536 * 2;
         q = pulse(q, file, n / 65_536 % 2, seed, k);
-        k = std::num::wrapping_add_u32(k, 2);
-        left -= 1;
+        k = k.wrapping_add(2);
     }
     q
 }
@@ -113,10 +111,8 @@ pub fn by_bits(b: Bench, file: &mut [u8; ROOM], word: u32, seed: u64) -> Sent {
 
 fn all_waited(b: Bench, file: &mut [u8; ROOM], seed: u64, count: u32) -> Bench {
     let mut after = b;
-    let mut k: u32 = 0;
-    while k < count {
+    for k in 0..count {
         after = waited(after, file, seed, k);
-        k += 1;
     }
     after
 }

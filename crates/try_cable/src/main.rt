@@ -4,33 +4,40 @@
 
 mod session;
 
-use libc::STDIN_FILENO;
 use session::Run;
+use std::io;
+use std::io::Read;
 use try_bench::ROOM;
 use try_script::words;
 
 // The longest script; of a longer one the end is missing, and the totals show it.
-const SCRIPT: usize = 131_072;
+const SCRIPT: u64 = 131_072;
 
-fn run(script: &[u8], file: &mut [u8; ROOM], first: Run) -> Run {
+fn run(rt: &impl Print, script: &[u8], file: &mut [u8; ROOM], first: Run) -> io::Result<Run> {
     let mut r = first;
     let mut at = 0;
     while at < script.len() {
         let end = words::until(script, at, b'\n');
-        r = session::line(r, file, &script[at..end]);
+        r = session::line(rt, r, file, &script[at..end])?;
         at = end + 1;
     }
-    r
+    Ok(r)
 }
 
-fn run_in(script: &[u8], file: &mut [u8; ROOM]) {
+fn run_in(rt: &impl Print, script: &[u8], file: &mut [u8; ROOM]) -> io::Result<()> {
     let first = session::start(file);
-    session::end(run(script, file, first));
+    session::end(rt, run(rt, script, file, first)?)
 }
 
-fn main() {
-    let mut script = [0u8; SCRIPT];
+// The script, to its end or to the longest.
+fn script_of(rt: &(impl Input + AllocGlobal)) -> io::Result<Vec<u8>> {
+    let mut script = Vec::new(rt.alloc());
+    rt.reader().take(SCRIPT).read_to_end(&mut script)?;
+    Ok(script)
+}
+
+fn main(rt: HostRuntime) -> io::Result<()> {
+    let script = script_of(&rt)?;
     let mut file = [0u8; ROOM];
-    let n = io::read_full(STDIN_FILENO, &mut script);
-    run_in(&script[..n], &mut file);
+    run_in(&rt, &script, &mut file)
 }

@@ -13,6 +13,7 @@
 //     at PLACE = value               the file holds this byte
 //     lend LENGTH                    so much of the file is lent
 use chain_decide::shown;
+use std::io;
 use try_bench::play::Play;
 use try_bench::tally::{Tally, one_more, say, say_number};
 use try_bench::{ROOM, Told, drives, plain, play, tally};
@@ -78,16 +79,15 @@ pub fn start(file: &mut [u8; ROOM]) -> Run {
 }
 
 // Reports a line that isn't as it says.
-fn amiss(line: &[u8], why: &[u8]) -> bool {
-    say(b"\n  ");
-    say(line);
-    say(b"\n  ");
-    say(why);
-    false
+fn amiss(rt: &impl Print, line: &[u8], why: &str) -> io::Result<bool> {
+    say(rt, b"\n  ")?;
+    say(rt, line)?;
+    print!(rt; "\n  {why}")?;
+    Ok(false)
 }
 
-fn unread(line: &[u8]) -> bool {
-    amiss(line, b"can't be read")
+fn unread(rt: &impl Print, line: &[u8]) -> io::Result<bool> {
+    amiss(rt, line, "can't be read")
 }
 
 fn says(n: Number, value: u8) -> bool {
@@ -101,37 +101,37 @@ fn says_told(line: &[u8], told: Told) -> bool {
         & says(words::number_at(line, 6), told.sum)
 }
 
-fn came(line: &[u8], told: Told) -> bool {
-    amiss(line, b"came");
-    say_number(told.answer as u32);
-    say_number(told.value as u32);
-    say_number(told.sum as u32);
-    false
+fn came(rt: &impl Print, line: &[u8], told: Told) -> io::Result<bool> {
+    amiss(rt, line, "came")?;
+    say_number(rt, told.answer as u32)?;
+    say_number(rt, told.value as u32)?;
+    say_number(rt, told.sum as u32)?;
+    Ok(false)
 }
 
 // The three numbers behind = are what the last event came to, and what was before it is good.
-fn judged(line: &[u8], told: Told, good: bool) -> bool {
+fn judged(rt: &impl Print, line: &[u8], told: Told, good: bool) -> io::Result<bool> {
     if !good {
-        return amiss(line, b"not so within the word");
+        return amiss(rt, line, "not so within the word");
     }
     if says_told(line, told) {
-        return true;
+        return Ok(true);
     }
-    came(line, told)
+    came(rt, line, told)
 }
 
-fn held_to(line: &[u8], p: Play) -> Play {
-    play::found(p, judged(line, p.told, p.good))
+fn held_to(rt: &impl Print, line: &[u8], p: Play) -> io::Result<Play> {
+    Ok(play::found(p, judged(rt, line, p.told, p.good)?))
 }
 
-fn event(p: Play, file: &mut [u8; ROOM], line: &[u8]) -> Play {
+fn event(rt: &impl Print, p: Play, file: &mut [u8; ROOM], line: &[u8]) -> io::Result<Play> {
     let kind = words::number_at(line, 0);
     let a = words::number_at(line, 1);
     let b = words::number_at(line, 2);
     if !(kind.ok & a.ok & b.ok) {
-        return play::found(p, unread(line));
+        return Ok(play::found(p, unread(rt, line)?));
     }
-    held_to(line, play::event(p, file, kind.n, a.n, b.n))
+    held_to(rt, line, play::event(p, file, kind.n, a.n, b.n))
 }
 
 fn with_parity(word: u32, parity: u32) -> u32 {
@@ -148,13 +148,14 @@ fn answers(line: &[u8], response: u32, sum: u8) -> bool {
         & says(words::number_at(line, 6), sum)
 }
 
-fn plainly(p: Play, line: &[u8], word: u32) -> Play {
+fn plainly(rt: &impl Print, p: Play, line: &[u8], word: u32) -> io::Result<Play> {
     let a = plain::plain(p.bench.chain, word);
     let q = play::with_chain(p, a.chain);
     if answers(line, a.response, shown::line_sum(a.chain)) {
-        return q;
+        return Ok(q);
     }
-    play::found(q, amiss(line, b"not so by the plain word rules"))
+    let good = amiss(rt, line, "not so by the plain word rules")?;
+    Ok(play::found(q, good))
 }
 
 // A word on the cable, or a part of it, or its response.
@@ -167,49 +168,55 @@ fn sent(p: Play, file: &mut [u8; ROOM], what: u8, a: u32, b: u32) -> Play {
 }
 
 // A line that plays a word.
-fn word(p: Play, file: &mut [u8; ROOM], line: &[u8], what: u8) -> Play {
+fn word(
+    rt: &impl Print,
+    p: Play,
+    file: &mut [u8; ROOM],
+    line: &[u8],
+    what: u8,
+) -> io::Result<Play> {
     let a = words::number_at(line, 1);
     let b = words::number_at(line, 2);
     if !(a.ok & b.ok) {
-        return play::found(p, unread(line));
+        return Ok(play::found(p, unread(rt, line)?));
     }
     if what == PLAIN {
-        return plainly(p, line, with_parity(a.n, b.n));
+        return plainly(rt, p, line, with_parity(a.n, b.n));
     }
-    held_to(line, sent(p, file, what, a.n, b.n))
+    held_to(rt, line, sent(p, file, what, a.n, b.n))
 }
 
-fn changed(p: Play, line: &[u8], slot: u32, v: u32) -> Play {
+fn changed(rt: &impl Print, p: Play, line: &[u8], slot: u32, v: u32) -> io::Result<Play> {
     let name = words::word(line, 2);
     let chain = fields::with_field(p.bench.chain, slot, name, v);
     let q = play::with_chain(p, chain);
     if fields::field(chain, slot, name) == v {
-        return q;
+        return Ok(q);
     }
-    play::found(q, unread(line))
+    Ok(play::found(q, unread(rt, line)?))
 }
 
-fn compared(line: &[u8], held: u32, v: u32) -> bool {
+fn compared(rt: &impl Print, line: &[u8], held: u32, v: u32) -> io::Result<bool> {
     if held == v {
-        return true;
+        return Ok(true);
     }
-    amiss(line, b"holds");
-    say_number(held);
-    false
+    amiss(rt, line, "holds")?;
+    say_number(rt, held)?;
+    Ok(false)
 }
 
 // A line about a field of the record.
-fn record(p: Play, line: &[u8], what: u8) -> Play {
+fn record(rt: &impl Print, p: Play, line: &[u8], what: u8) -> io::Result<Play> {
     let slot = words::number_at(line, 1);
     let v = words::number_at(line, 4);
     if !(slot.ok & v.ok & words::is_at(line, 3, b"=")) {
-        return play::found(p, unread(line));
+        return Ok(play::found(p, unread(rt, line)?));
     }
     if what == SET {
-        return changed(p, line, slot.n, v.n);
+        return changed(rt, p, line, slot.n, v.n);
     }
     let held = fields::field(p.bench.chain, slot.n, words::word(line, 2));
-    play::found(p, compared(line, held, v.n))
+    Ok(play::found(p, compared(rt, line, held, v.n)?))
 }
 
 fn wide(byte: u8) -> u32 {
@@ -225,62 +232,68 @@ fn byte_at(file: &[u8; ROOM], place: u32) -> u32 {
 }
 
 // A line about a byte of the file.
-fn medium(file: &[u8; ROOM], line: &[u8]) -> bool {
+fn medium(rt: &impl Print, file: &[u8; ROOM], line: &[u8]) -> io::Result<bool> {
     let place = words::number_at(line, 1);
     let v = words::number_at(line, 3);
     if !(place.ok & v.ok & words::is_at(line, 2, b"=")) {
-        return unread(line);
+        return unread(rt, line);
     }
-    compared(line, byte_at(file, place.n), v.n)
+    compared(rt, line, byte_at(file, place.n), v.n)
 }
 
 // A line about the file: another length of it, or a chain laid anew.
-fn bench(p: Play, file: &mut [u8; ROOM], line: &[u8], what: u8) -> Play {
+fn bench(
+    rt: &impl Print,
+    p: Play,
+    file: &mut [u8; ROOM],
+    line: &[u8],
+    what: u8,
+) -> io::Result<Play> {
     let n = words::number_at(line, 1);
     if !n.ok {
-        return play::found(p, unread(line));
+        return Ok(play::found(p, unread(rt, line)?));
     }
     if what == LEND {
-        return play::with_lent(p, n.n as usize);
+        return Ok(play::with_lent(p, n.n as usize));
     }
-    play::with_bench(p, try_bench::fresh_chain(file, (n.n % 256) as u8))
+    let fresh = try_bench::fresh_chain(file, (n.n % 256) as u8);
+    Ok(play::with_bench(p, fresh))
 }
 
-fn played(p: Play, file: &mut [u8; ROOM], line: &[u8]) -> Play {
+fn played(rt: &impl Print, p: Play, file: &mut [u8; ROOM], line: &[u8]) -> io::Result<Play> {
     let what = verb(line);
     match what {
-        SEND | PART | TAKE | PLAIN => word(p, file, line, what),
-        SET | IS => record(p, line, what),
-        LEND | FIT => bench(p, file, line, what),
-        AT => play::found(p, medium(file, line)),
-        _ => event(p, file, line),
+        SEND | PART | TAKE | PLAIN => word(rt, p, file, line, what),
+        SET | IS => record(rt, p, line, what),
+        LEND | FIT => bench(rt, p, file, line, what),
+        AT => Ok(play::found(p, medium(rt, file, line)?)),
+        _ => event(rt, p, file, line),
     }
 }
 
 // Ends a session's line of the report.
-fn closed(sessions: u32, here: u32) {
+fn closed(rt: &impl Print, sessions: u32, here: u32) -> io::Result<()> {
     if sessions == 0 {
-        return;
+        return Ok(());
     }
     if here == 0 {
-        say(b": ok\n");
-        return;
+        return say(rt, b": ok\n");
     }
-    say(b"\n  NOT ok\n");
+    say(rt, b"\n  NOT ok\n")
 }
 
 // A session has no chain until the script fits one.
-fn titled(r: Run, file: &mut [u8; ROOM], line: &[u8]) -> Run {
-    closed(r.sessions, r.here);
-    say(line);
+fn titled(rt: &impl Print, r: Run, file: &mut [u8; ROOM], line: &[u8]) -> io::Result<Run> {
+    closed(rt, r.sessions, r.here)?;
+    say(rt, line)?;
     let play = play::with_bench(r.play, try_bench::fresh_chain(file, drives::NONE));
-    Run {
+    Ok(Run {
         play,
         here: 0,
         differences: r.differences,
         sessions: one_more(r.sessions),
         lines: r.lines,
-    }
+    })
 }
 
 fn one_if(n: u32, good: bool) -> u32 {
@@ -291,42 +304,40 @@ fn one_if(n: u32, good: bool) -> u32 {
 }
 
 // A line that plays something.
-fn on_with(r: Run, file: &mut [u8; ROOM], line: &[u8]) -> Run {
-    let play = played(play::found(r.play, true), file, line);
-    Run {
+fn on_with(rt: &impl Print, r: Run, file: &mut [u8; ROOM], line: &[u8]) -> io::Result<Run> {
+    let play = played(rt, play::found(r.play, true), file, line)?;
+    Ok(Run {
         play,
         here: one_if(r.here, play.good),
         differences: one_if(r.differences, play.good),
         sessions: r.sessions,
         lines: one_more(r.lines),
-    }
+    })
 }
 
-pub fn line(r: Run, file: &mut [u8; ROOM], line: &[u8]) -> Run {
+pub fn line(rt: &impl Print, r: Run, file: &mut [u8; ROOM], line: &[u8]) -> io::Result<Run> {
     if line.len() == 0 {
-        return r;
+        return Ok(r);
     }
     if line[0] == b'#' {
-        return titled(r, file, line);
+        return titled(rt, r, file, line);
     }
     if line[0] == b'-' {
-        return r;
+        return Ok(r);
     }
-    on_with(r, file, line)
+    on_with(rt, r, file, line)
 }
 
-fn total(name: &[u8], n: u32) {
-    say(name);
-    say_number(n);
-    say(b"\n");
+fn total(rt: &impl Print, name: &str, n: u32) -> io::Result<()> {
+    println!(rt; "{name} {n}")
 }
 
 // The totals.
-pub fn end(r: Run) {
-    closed(r.sessions, r.here);
-    total(b"sessions", r.sessions);
-    total(b"lines", r.lines);
+pub fn end(rt: &impl Print, r: Run) -> io::Result<()> {
+    closed(rt, r.sessions, r.here)?;
+    total(rt, "sessions", r.sessions)?;
+    total(rt, "lines", r.lines)?;
     let tally = r.play.tally;
-    tally::say_all(tally);
-    total(b"differences", r.differences);
+    tally::say_all(rt, tally)?;
+    total(rt, "differences", r.differences)
 }

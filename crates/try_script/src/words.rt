@@ -15,14 +15,12 @@ pub fn until(line: &[u8], from: usize, byte: u8) -> usize
     if from > line.len() {
         return line.len();
     }
-    let mut at = from;
-    while at < line.len() {
+    for at in from..line.len() {
         if line[at] == byte {
             return at;
         }
-        at += 1;
     }
-    at
+    line.len()
 }
 
 // Behind the word that starts at a place, and the space after it.
@@ -41,10 +39,8 @@ fn start_of(line: &[u8], k: u8) -> usize
     ensures { result ≤ length line.now }
 {
     let mut at = 0;
-    let mut left = k;
-    while left > 0 {
+    for _ in 0..k {
         at = behind(line, at);
-        left -= 1;
     }
     at
 }
@@ -89,29 +85,26 @@ fn base(hex: bool) -> u8 {
 
 fn digits(word: &[u8], hex: bool) -> Number {
     let mut n: u64 = 0;
-    let mut i = 0;
-    while i < word.len() {
-        let d = digit(word[i]);
+    for byte in word {
+        let d = digit(*byte);
         if d >= base(hex) {
             return Number { ok: false, n: 0 };
         }
         n = grown(n, d, hex);
-        i += 1;
     }
     Number {
-        ok: i > 0,
+        ok: word.len() > 0,
         n: (n % 4_294_967_296) as u32,
     }
 }
 
 // Decimal, or hexadecimal with an h behind it.
 pub fn said(word: &[u8]) -> Number {
-    if word.len() == 0 {
+    let Some((last, front)) = word.split_last() else {
         return Number { ok: false, n: 0 };
-    }
-    let last = word.len() - 1;
-    if word[last] == b'h' {
-        return digits(&word[..last], true);
+    };
+    if *last == b'h' {
+        return digits(front, true);
     }
     digits(word, false)
 }
@@ -121,17 +114,15 @@ pub fn number_at(line: &[u8], k: u8) -> Number {
 }
 
 pub fn is_at(line: &[u8], k: u8, text: &[u8]) -> bool {
-    check::same(word(line, k), text)
+    word(line, k) == text
 }
 
 // Which word of a list a name is, counted from 0; past its end where it is none of them.
 pub fn index(list: &[u8], name: &[u8]) -> u8 {
-    let mut k: u8 = 0;
-    while k < 32 {
+    for k in 0..32 {
         if is_at(list, k, name) {
             return k;
         }
-        k += 1;
     }
-    k
+    32
 }
