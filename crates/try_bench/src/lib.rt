@@ -6,7 +6,7 @@ pub mod plain;
 pub mod play;
 pub mod tally;
 
-ghost use Rattle.std.specs.Prelude.{◌≤◌, length};
+ghost use Rattle.std.specs.Prelude.{◌≡◌, ◌≤◌, length, take};
 
 use bus_reply::Reply;
 use chain_record::Chain;
@@ -90,7 +90,7 @@ fn lay_all(file: &mut [u8; ROOM], which: u8) -> usize {
 
 // So many bytes of the room, or all that there are.
 fn at_most(file: &[u8], n: usize) -> usize
-    ensures { result ≤ length file.now }
+    ensures { (result ≤ length file.now) × (length (take result file.now) ≡ result) }
 {
     if n > file.len() {
         return file.len();
