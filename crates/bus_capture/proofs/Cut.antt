@@ -10,7 +10,7 @@ use Rattle.capture_samples.proofs.Sampling.{no_sample, front_sample, samples_beh
 use Rattle.capture_events.specs.Events.{events_behind, capture_events}
 use Rattle.capture_events.specs.Coming.{last_of}
 use Rattle.capture_events.proofs.Coming.{from_start, behind_last}
-use Rattle.bus_capture.specs.declared.Session.{Session}
+use Rattle.bus_session.specs.declared.Session.{Session}
 use Rattle.bus_capture.specs.Answers.{events_answers}
 use Rattle.bus_capture.specs.Stream.{Stream, stream_of, answered_of, fed_events}
 use Rattle.bus_capture.specs.Parts.{opened_of, fed_part, session_after, file_after, behind, fed_parts, WholeSamples}
@@ -32,7 +32,7 @@ module _ (o : List ℕ) where
   events_behind_lem (n ∷ l) t = ap (λ (u : Stream). fed_events u l) (answered_behind t n) ∙ events_behind_lem l (answered_of t n)
 
 -- a part and then bytes: they are run from an output with nothing waiting
-part_behind : (p q : List ℕ) (s : Session) (file : List ℕ) → length p % sample_length ≡ 0
+part_behind : (p q : List ℕ) (s : Session Sample) (file : List ℕ) → length p % sample_length ≡ 0
     → fed_part s file (p ++ q) ≡ behind (fed_part s file p).out (fed_part (session_after s file p) (file_after s file p) q)
 part_behind p q s file h =
     let t = fed_part s file p in
@@ -46,7 +46,7 @@ part_behind p q s file h =
     ∙ ap (λ (v : Stream). fed_events v m) e
     ∙ events_behind_lem t.out m (stream_of (session_after s file p) (file_after s file p) [])
 
-pub parts_join : (ps : List (List ℕ)) (s : Session) (file : List ℕ) → WholeSamples ps → fed_parts s file ps ≡ fed_part s file (flatten ps)
+pub parts_join : (ps : List (List ℕ)) (s : Session Sample) (file : List ℕ) → WholeSamples ps → fed_parts s file ps ≡ fed_part s file (flatten ps)
 unfolding flatten
 parts_join [] s file w = sym (ap (λ (l : List Sample). fed_events (stream_of s file []) (events_behind s.at l)) (no_sample [] (omega arith)))
 parts_join (p ∷ ps) s file w =

@@ -5,8 +5,9 @@ use Rattle.event.specs.Numbers.{Numbers}
 use Rattle.chain_step.specs.Run.{lent_after, lent_through}
 use Rattle.bus_reply.specs.Reply.{line_count, line_answer}
 use Rattle.capture_events.specs.Coming.{to_come}
-use Rattle.bus_capture.specs.declared.Session.{Session}
-use Rattle.bus_capture.specs.declared.Turn.{Turn}
+use Rattle.capture_samples.specs.declared.Sample.{Sample}
+use Rattle.bus_session.specs.declared.Session.{Session}
+use Rattle.bus_session.specs.declared.Turn.{Turn}
 use Rattle.bus_capture.specs.Answers.{reply_to, events_answers, count_after}
 use Rattle.bus_capture.specs.Stream.{Stream, stream_of, answered_of, fed_events, is_full, ran_of, left_of}
 use Rattle.bus_capture.specs.Parts.{part_events}
@@ -38,15 +39,15 @@ left_joins (n ∷ l) t = at_test (is_full t) (left_joins l (answered_of t n))
     at_test false h = h
 
 -- whatever the part, the session, the file and the output
-pub turn_joins : {part file out file' out' : List ℕ} {s : Session} {r : Turn} → Fed part s file out r file' out' → Together part s file r file' out'
+pub turn_joins : {part file out file' out' : List ℕ} {s : Session Sample} {r : Turn Sample} → Fed part s file out r file' out' → Together part s file r file' out'
 turn_joins {part} {file} {out} {file'} {out'} {s} {r} f =
     let t = stream_of s file [] in
     let u = ran_part s file part in
     let m = to_come r.session.at part r.used in
     let e : through u m ≡ through t (part_events s part) =
     sym (fed_is m u) ∙ rw f.left (left_joins (part_events s part) t) ∙ fed_is (part_events s part) t in
-    let c : r.session.chain ≡ u.lent.chain = ap (λ (x : Turn). x.session.chain) f.is in
-    let n : r.session.lines ≡ u.lines = ap (λ (x : Turn). x.session.lines) f.is in
+    let c : r.session.chain ≡ u.lent.chain = ap (λ (x : Turn Sample). x.session.chain) f.is in
+    let n : r.session.lines ≡ u.lines = ap (λ (x : Turn Sample). x.session.lines) f.is in
     record {
       puts = rw (f.puts, f.keeps, c, n) (ap (λ (v : Stream). v.out) e);
       lent = rw (f.keeps, c) (ap (λ (v : Stream). v.lent) e);

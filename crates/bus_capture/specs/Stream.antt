@@ -8,7 +8,7 @@ use Rattle.chain_step.specs.Run.{Lent, lent, lent_after}
 use Rattle.bus_text.specs.AnswerLine.{longest_line}
 use Rattle.bus_reply.specs.Reply.{line_count, line_answer}
 use Rattle.bus_output.specs.Output.{block_length}
-use Rattle.bus_capture.specs.declared.Session.{Session}
+use Rattle.bus_session.specs.declared.Session.{Session}
 use Rattle.bus_capture.specs.Answers.{reply_to}
 
 -- record and file, how many events were answered, and the bytes that were put out
@@ -17,7 +17,7 @@ pub record Stream : Type 0 where
   pub lines : ℕ
   pub out : List ℕ
 
-abbrev pub stream_of : Session → List ℕ → List ℕ → Stream
+abbrev pub stream_of : Session Sample → List ℕ → List ℕ → Stream
 stream_of s file out = record { lent = lent s.chain file; lines = s.lines; out = out }
 
 -- an event carried out, its answer line put behind the bytes put out

@@ -4,8 +4,8 @@ use Rattle.event.specs.Numbers.{Numbers}
 use Rattle.capture_samples.specs.declared.Sample.{Sample}
 use Rattle.capture_samples.specs.Samples.{sample_length, samples_of}
 use Rattle.capture_events.specs.Events.{events_to}
-use Rattle.bus_capture.specs.declared.Session.{Session}
-use Rattle.bus_capture.specs.declared.Turn.{Turn}
+use Rattle.bus_session.specs.declared.Session.{Session}
+use Rattle.bus_session.specs.declared.Turn.{Turn}
 use Rattle.bus_capture.specs.Stream.{Stream, stream_of, ran_of, left_of, reached_of}
 use Rattle.bus_capture.specs.Parts.{part_events}
 
@@ -27,10 +27,10 @@ stop_of t at used (to ∷ rest) =
     stop_on (left_of t l) (stop_of (ran_of t l) to (used + sample_length) rest) (record { at = reached_of t l at; used = used })
 
 -- from an output with nothing waiting
-abbrev pub ran_part : Session → List ℕ → List ℕ → Stream
+abbrev pub ran_part : Session Sample → List ℕ → List ℕ → Stream
 ran_part s file part = ran_of (stream_of s file []) (part_events s part)
 
-abbrev pub turn_of : Session → List ℕ → List ℕ → Turn
+abbrev pub turn_of : Session Sample → List ℕ → List ℕ → Turn Sample
 turn_of s file part =
     let t = ran_part s file part in
     let p = stop_of (stream_of s file []) s.at 0 (samples_of part) in

@@ -13,30 +13,12 @@ use capture_events::Ahead;
 use capture_samples::{LENGTH, Sample, sample_of};
 use chain_record::Chain;
 
-// What one event leaves to the next.
-#[derive(Clone, Copy)]
-pub struct Session {
-    pub chain: Chain,
-    // what is reached of the capture
-    pub at: Sample,
-    // how many events were answered
-    pub lines: u64,
-}
+// A session reaches a sample of the capture.
+pub type Session = bus_session::Session<Sample>;
 
-// A session, and how much of the output waits.
-#[derive(Clone, Copy)]
-struct Waiting {
-    session: Session,
-    at: usize,
-}
+type Waiting = bus_session::Waiting<Sample>;
 
-// What a part of the capture leaves, and how much of the part was used.
-#[derive(Clone, Copy)]
-pub struct Turn {
-    pub session: Session,
-    pub used: usize,
-    pub at: usize,
-}
+pub type Turn = bus_session::Turn<Sample>;
 
 // A session before the first sample, which stands at the start of the part.
 pub fn opened(chain: Chain, part: &[u8]) -> Session
@@ -52,57 +34,41 @@ pub fn opened(chain: Chain, part: &[u8]) -> Session
 }
 
 // An event without a second operand, its answer put behind the output that waits.
-fn answered(
-    out: &mut [u8; BLOCK],
-    at: usize,
-    file: &mut [u8],
-    s: Session,
-    kind: u32,
-    a: u32,
-    reached: Sample,
-) -> Waiting
+fn answered(out: &mut [u8; BLOCK], at: usize, file: &mut [u8], s: Session, e: Ahead) -> Waiting
     requires { at + longest_line ≤ block_length }
-    ensures { Answers s kind a reached file.old out.old at result file.new out.new }
+    ensures { Answers s e file.old out.old at result file.new out.new }
 {
-    let t = bus_reply::to_event(s.chain, file, kind, a, 0);
-    let lines = std::num::wrapping_add_u64(s.lines, 1);
-    let chain = t.chain;
-    let next = bus_output::put(out, at, lines, t.answer, t.value, t.sum);
-    Waiting {
-        session: Session {
-            chain,
-            at: reached,
-            lines,
-        },
-        at: next,
-    }
+    let reply = bus_reply::to_event(s.chain, file, e.kind, e.a, 0);
+    bus_session::answered(out, at, s.lines, reply, e.reached)
 }
 
 // Runs a part's whole samples, from an output with nothing waiting, until they are used up or the next answer might not fit.
 // It may stop inside a sample: going on is the same call over the rest of the part.
+// Stays: no plainer: the contract, Fed, names out, file and session singly, so a struct of them would be taken apart in it.
 pub fn feed(part: &[u8], out: &mut [u8; BLOCK], file: &mut [u8], first: Session) -> Turn
     ensures { Fed part.now first file.old out.old result file.new out.new }
 {
     let mut session = first;
-    let mut used = 0;
+    let mut rest = part;
     let mut at = 0;
-    while part.len() - used >= LENGTH {
-        let to = sample_of(&part[used..]);
-        let ahead = capture_events::next(session.at, to);
-        match ahead {
-            Ahead::Event(kind, a, reached) => {
+    while rest.len() >= LENGTH {
+        let to = sample_of(rest);
+        match capture_events::next(session.at, to) {
+            Some(e) => {
                 if at > BLOCK - LONGEST {
+                    let used = part.len() - rest.len();
                     return Turn { session, used, at };
                 }
-                let w = answered(out, at, file, session, kind, a, reached);
+                let w = answered(out, at, file, session, e);
                 session = w.session;
                 at = w.at;
             }
-            Ahead::Reached => {
+            None => {
                 session.at = to;
-                used += LENGTH;
+                rest = &rest[LENGTH..];
             }
         }
     }
+    let used = part.len() - rest.len();
     Turn { session, used, at }
 }

@@ -9,8 +9,8 @@ use Rattle.event.specs.Answer.{answer_number}
 use Rattle.chain_record.specs.declared.Chain.{Chain}
 use Rattle.chain_step.specs.Step.{step_of}
 use Rattle.chain_step.proofs.RefusedLeaves.{refused_leaves}
-use Rattle.bus_text.specs.declared.Line.{Line}
-use Rattle.bus_text.specs.declared.Line.TheVariants.{Numbers, Unreadable}
+use Rattle.std.specs.Prelude.{Option, None, Some}
+use Rattle.bus_text.specs.declared.Numbers.{Numbers}
 use Rattle.bus_reply.specs.Reply.{reply_of, reply_file}
 
 -- no answer to an event is 19
@@ -28,6 +28,6 @@ from_20 WrongLength h = omega arith
 from_20 Inapplicable h = omega arith
 from_20 PastTrack h = omega arith
 
-pub refusals_leave : (c : Chain) (file : List ℕ) (line : Line) → 19 ≤ (reply_of c file line).answer → ((reply_of c file line).chain ≡ c) × (reply_file c file line ≡ file)
-refusals_leave c file (Numbers kind a b) h = refused_leaves c file kind a b (from_20 (step_of kind a b c file).answer h)
-refusals_leave c file Unreadable h = (refl, refl)
+pub refusals_leave : (c : Chain) (file : List ℕ) (line : Option Numbers) → 19 ≤ (reply_of c file line).answer → ((reply_of c file line).chain ≡ c) × (reply_file c file line ≡ file)
+refusals_leave c file (Some n) h = refused_leaves c file n.kind n.a n.b (from_20 (step_of n.kind n.a n.b c file).answer h)
+refusals_leave c file None h = (refl, refl)

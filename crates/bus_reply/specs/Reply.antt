@@ -1,12 +1,11 @@
 -- The reply to an event line. Document 01, Runner: "Each output line: input line count, answer, value, and the selected drive's lines as a sum".
-use Rattle.std.specs.Prelude.{ℕ, ◌+◌, ◌%◌, ◌^◌, List}
+use Rattle.std.specs.Prelude.{ℕ, ◌+◌, ◌%◌, ◌^◌, List, Option, None, Some}
 use Rattle.event.specs.Answer.{answer_number, answer_value}
 use Rattle.chain_record.specs.declared.Chain.{Chain}
 use Rattle.chain_decide.specs.Shown.{line_sum}
 use Rattle.chain_step.specs.declared.Stepped.{Stepped}
 use Rattle.chain_step.specs.Step.{step_of, step_file}
-use Rattle.bus_text.specs.declared.Line.{Line}
-use Rattle.bus_text.specs.declared.Line.TheVariants.{Numbers, Unreadable}
+use Rattle.bus_text.specs.declared.Numbers.{Numbers}
 use Rattle.bus_text.specs.Whole.{unreadable_number}
 use Rattle.bus_text.specs.AnswerLine.{answer_line}
 use Rattle.bus_reply.specs.declared.Reply.{Reply}
@@ -22,14 +21,14 @@ event_reply kind a b c file = stepped_reply (step_of kind a b c file)
 abbrev pub unreadable_reply : Chain → Reply
 unreadable_reply c = record { chain = c; answer = unreadable_number; value = 0; sum = line_sum c }
 
-abbrev pub reply_of : Chain → List ℕ → Line → Reply
-reply_of c file (Numbers kind a b) = event_reply kind a b c file
-reply_of c file Unreadable = unreadable_reply c
+abbrev pub reply_of : Chain → List ℕ → Option Numbers → Reply
+reply_of c file (Some n) = event_reply n.kind n.a n.b c file
+reply_of c file None = unreadable_reply c
 
 -- "Refusals 19 to 25 change nothing": 19 leaves the file; 20 to 25 leave it by step_file
-abbrev pub reply_file : Chain → List ℕ → Line → List ℕ
-reply_file c file (Numbers kind a b) = step_file kind a b c file
-reply_file c file Unreadable = file
+abbrev pub reply_file : Chain → List ℕ → Option Numbers → List ℕ
+reply_file c file (Some n) = step_file n.kind n.a n.b c file
+reply_file c file None = file
 
 -- "input line count": a count of 64 bits, which no run fills
 abbrev pub line_count : ℕ → ℕ

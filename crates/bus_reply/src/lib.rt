@@ -5,7 +5,7 @@ ghost use Rattle.std.specs.Prelude.{◌≡◌};
 ghost use Rattle.chain_step.specs.Step.{step_file};
 ghost use Rattle.bus_reply.specs.Reply.{event_reply, reply_of, reply_file};
 
-use bus_text::Line;
+use bus_text::Numbers;
 use chain_decide::shown;
 use chain_record::Chain;
 
@@ -13,6 +13,7 @@ use chain_record::Chain;
 #[derive(Clone, Copy)]
 pub struct Reply {
     pub chain: Chain,
+    // Stays: no plainer: 19, unreadable, is no event::Answer, so a reply holds the numbers of the output line.
     pub answer: u8,
     pub value: u8,
     pub sum: u8,
@@ -35,12 +36,12 @@ pub fn to_event(c: Chain, file: &mut [u8], kind: u32, a: u32, b: u32) -> Reply
 }
 
 // The reply to a line; one that can't be read leaves the chain and the file.
-pub fn to_line(c: Chain, file: &mut [u8], line: Line) -> Reply
+pub fn to_line(c: Chain, file: &mut [u8], line: Option<Numbers>) -> Reply
     ensures { (result ≡ reply_of c file.old line) × (file.new ≡ reply_file c file.old line) }
 {
     match line {
-        Line::Numbers(kind, a, b) => to_event(c, file, kind as u32, a as u32, b as u32),
-        Line::Unreadable => Reply {
+        Some(n) => to_event(c, file, n.kind as u32, n.a as u32, n.b as u32),
+        None => Reply {
             chain: c,
             answer: bus_text::unreadable(),
             value: 0,

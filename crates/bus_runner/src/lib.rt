@@ -5,17 +5,14 @@ mod capture;
 mod stream;
 mod system;
 
-ghost use Rattle.std.specs.Prelude.{◌≤◌, length};
+ghost use Rattle.std.specs.Prelude.{◌≤◌, IfOk, IfSome};
 
 use chain_record::Chain;
-use counts::Place;
-use pack_profile::Profile;
-use pack_read::Refusal;
-use pack_read::read::Reading;
+use pack_read::read::Refused;
 use std::io::{ErrorKind, Read};
 use std::rt::Runtime;
 use std::{fs, io};
-use system::{WORD, fail, read_full, word, words};
+use system::{WORD, at_end, fail, read_full, word, words};
 
 // The longest pack file that is taken: it lies on the stack.
 const LIMIT: usize = 1_048_576;
@@ -25,6 +22,14 @@ const TWO: usize = 2 * bus_smallest::PACK;
 
 // The system's number for a descriptor that is not open: std has no kind of error for it.
 const NOT_OPEN: i32 = 9;
+
+// Where the events are read.
+#[derive(Clone, Copy)]
+enum Events<'a> {
+    Input,
+    // a capture's file, and how long it was when it was looked at
+    Capture { path: &'a str, length: u64 },
+}
 
 // What can't be said on standard error is left unsaid.
 fn complain(rt: &impl Eprint, text: &str) {
@@ -36,6 +41,12 @@ fn usage(rt: &impl Eprint) {
         rt,
         "usage: bus [PACK-FILE] < EVENTS, or bus --capture CAPTURE [PACK-FILE]",
     );
+}
+
+// The words are not those of the usage.
+fn misused(rt: &impl Eprint, text: &str) {
+    complain(rt, text);
+    usage(rt);
 }
 
 // A reader that has gone away is not reported.
@@ -50,13 +61,8 @@ fn complain_unwritten(rt: &impl Eprint, why: &io::Error) {
 }
 
 // Writes what waits. Gives whether the reader is still there.
-fn written<R: Print + Eprint>(rt: &R, out: &[u8], n: usize, open: bool) -> bool
-    requires { n ≤ length out.now }
-{
-    if !open {
-        return false;
-    }
-    match rt.write_all(&out[..n]) {
+fn written<R: Print + Eprint>(rt: &R, waiting: &[u8]) -> bool {
+    match rt.write_all(waiting) {
         Ok(()) => true,
         Err(why) => {
             complain_unwritten(rt, &why);
@@ -65,98 +71,53 @@ fn written<R: Print + Eprint>(rt: &R, out: &[u8], n: usize, open: bool) -> bool
     }
 }
 
-fn complain_refused(rt: &impl Eprint, why: Refusal, place: Place) {
-    let number = pack_read::number(why);
-    let at = place.0;
+fn complain_refused(rt: &impl Eprint, refused: Refused) {
+    let number = u8::from(refused.why);
+    let at = refused.place.0;
     let _ = eprintln!(rt; "refused {number} at {at}");
 }
 
-// The events are those of the capture that is named, and is so long, or standard input's where none is.
-fn serve<R: Runtime>(rt: &R, chain: Chain, file: &mut [u8], events: &str, length: u64) {
-    if events.is_empty() {
-        stream::serve(rt, chain, file);
-        return;
+fn serve<R: Runtime>(rt: &R, chain: Chain, file: &mut [u8], events: Events) {
+    match events {
+        Events::Input => stream::serve(rt, chain, file),
+        Events::Capture { path, length } => capture::serve(rt, chain, file, path, length),
     }
-    capture::serve(rt, chain, file, events, length);
 }
 
 // Answers the events over a pack file in memory.
-fn run<R: Runtime>(rt: &R, file: &mut [u8], events: &str, length: u64) {
+fn run<R: Runtime>(rt: &R, file: &mut [u8], events: Events) {
     let fitted = chain_fit::fit(file);
-    let answer = fitted.answer;
-    match answer {
-        Reading::Whole => serve(rt, fitted.chain, file, events, length),
-        Reading::Refused(why, place) => complain_refused(rt, why, place),
+    match fitted.answer {
+        Ok(()) => serve(rt, fitted.chain, file, events),
+        Err(refused) => complain_refused(rt, refused),
     }
-}
-
-fn lay_at(file: &mut [u8], place: usize, p: Profile)
-    requires { place ≤ length file.old }
-{
-    pack_lay::lay(p, &mut file[place..]);
 }
 
 // The smallest drive in slots 1 and 3.
-fn run_two<R: Runtime>(rt: &R, file: &mut [u8; TWO], events: &str, length: u64) {
-    lay_at(file, 0, bus_smallest::drive(1));
-    lay_at(file, bus_smallest::PACK, bus_smallest::drive(3));
-    run(rt, file, events, length);
+fn run_two<R: Runtime>(rt: &R, file: &mut [u8; TWO], events: Events) {
+    let _ = pack_lay::lay(bus_smallest::drive(1), file);
+    let _ = pack_lay::lay(bus_smallest::drive(3), &mut file[bus_smallest::PACK..]);
+    run(rt, file, events);
 }
 
-fn run_smallest<R: Runtime>(rt: &R, events: &str, length: u64) {
-    let mut file = [0u8; TWO];
-    run_two(rt, &mut file, events, length);
+fn run_smallest<R: Runtime>(rt: &R, events: Events) {
+    run_two(rt, &mut [0u8; TWO], events);
 }
 
-// Whether the file has no byte past those read.
-fn at_end<F: Read>(rt: &impl Eprint, from: &mut F, path: &str) -> bool {
-    let mut next = [0u8; 1];
-    match from.read(&mut next) {
-        Ok(0) => return true,
-        Ok(_) => {
-            let _ = eprintln!(rt; "{path}: longer than {LIMIT} bytes, the most that is taken");
-        }
-        Err(why) => fail(rt, path, &why),
+// Reads a file whole and says how long it is, or nothing where it is longer than the room.
+fn read_whole<F: Read>(from: &mut F, room: &mut [u8; LIMIT]) -> io::Result<Option<usize>>
+    ensures { IfOk result (λ read. IfSome read (λ n. n ≤ 1_048_576)) }
+{
+    let n = read_full(from, room)?;
+    if at_end(from)? {
+        return Ok(Some(n));
     }
-    false
+    Ok(None)
 }
 
-fn run_open<R: Runtime>(
-    rt: &R,
-    mut from: R::File,
-    path: &str,
-    room: &mut [u8],
-    events: &str,
-    length: u64,
-) {
-    let n = match read_full(&mut from, room) {
-        Ok(n) => n,
-        Err(why) => {
-            fail(rt, path, &why);
-            return;
-        }
-    };
-    let whole = at_end(rt, &mut from, path);
-    drop(from);
-    if whole {
-        run(rt, &mut room[..n], events, length);
-    }
-}
-
-// The room is lent as an array here, so that its length needs no proof.
-fn run_in<R: Runtime>(
-    rt: &R,
-    from: R::File,
-    path: &str,
-    room: &mut [u8; LIMIT],
-    events: &str,
-    length: u64,
-) {
-    run_open(rt, from, path, room, events, length);
-}
-
-fn run_named<R: Runtime>(rt: &R, path: &str, events: &str, length: u64) {
-    let from = match fs::open(rt, path) {
+// Runs on a pack file. Where it can't be taken, why is said.
+fn run_named<R: Runtime>(rt: &R, path: &str, events: Events) {
+    let mut from = match fs::open(rt, path) {
         Ok(from) => from,
         Err(why) => {
             fail(rt, path, &why);
@@ -165,40 +126,42 @@ fn run_named<R: Runtime>(rt: &R, path: &str, events: &str, length: u64) {
         }
     };
     let mut room = [0u8; LIMIT];
-    run_in(rt, from, path, &mut room, events, length);
-}
-
-fn is_capture(word: &str) -> bool {
-    word == "--capture"
-}
-
-// The pack file of a capture, where the words name one.
-fn run_captured<R: Runtime>(rt: &R, count: usize, events: &str) {
-    let found = capture::look(rt, events);
-    if !found.good {
-        return;
+    let read = read_whole(&mut from, &mut room);
+    drop(from);
+    match read {
+        Ok(Some(n)) => run(rt, &mut room[..n], events),
+        Ok(None) => {
+            let _ = eprintln!(rt; "{path}: longer than {LIMIT} bytes, the most that is taken");
+        }
+        Err(why) => fail(rt, path, &why),
     }
+}
+
+// Runs a capture, on the pack file that the words name, or on the smallest drives.
+fn run_captured<R: Runtime>(rt: &R, count: usize, path: &str) {
+    let Some(length) = capture::look(rt, path) else {
+        return;
+    };
+    let events = Events::Capture { path, length };
     if count == 3 {
-        run_smallest(rt, events, found.length);
+        run_smallest(rt, events);
         return;
     }
     let mut room = [0u8; WORD];
-    let Some(path) = word(rt, 3, &mut room) else {
+    let Some(pack) = word(rt, 3, &mut room) else {
         usage(rt);
         return;
     };
-    run_named(rt, path, events, found.length);
+    run_named(rt, pack, events);
 }
 
 fn start_capture<R: Runtime>(rt: &R, count: usize) {
     if count < 3 {
-        complain(rt, "bus: no capture");
-        usage(rt);
+        misused(rt, "bus: no capture");
         return;
     }
     if count > 4 {
-        complain(rt, "bus: more than two files");
-        usage(rt);
+        misused(rt, "bus: more than two files");
         return;
     }
     let mut room = [0u8; WORD];
@@ -210,10 +173,11 @@ fn start_capture<R: Runtime>(rt: &R, count: usize) {
 }
 
 // The whole program: no argument, or the path of a pack file; or a capture and perhaps a pack file.
+// Stays: no plainer: the usage is told apart by how many words there are, here and in the two functions above.
 pub fn start<R: Runtime>(rt: &R) {
     let count = words(rt, 5);
     if count < 2 {
-        run_smallest(rt, "", 0);
+        run_smallest(rt, Events::Input);
         return;
     }
     let mut room = [0u8; WORD];
@@ -221,14 +185,13 @@ pub fn start<R: Runtime>(rt: &R) {
         usage(rt);
         return;
     };
-    if is_capture(first) {
+    if first == "--capture" {
         start_capture(rt, count);
         return;
     }
     if count > 2 {
-        complain(rt, "bus: more than one argument");
-        usage(rt);
+        misused(rt, "bus: more than one argument");
         return;
     }
-    run_named(rt, first, "", 0);
+    run_named(rt, first, Events::Input);
 }

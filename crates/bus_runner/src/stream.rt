@@ -1,5 +1,5 @@
 // Standard input and output around `bus_stream`: a block is read, its answers are written, and the next is read.
-ghost use Rattle.std.specs.Prelude.{◌≡◌, ◌≤◌, [], length, take};
+ghost use Rattle.std.specs.Prelude.{◌≡◌, ◌≤◌, [], IfSome};
 ghost use Rattle.bus_stream.specs.Stream.{stream_of, fed_bytes};
 ghost use Rattle.bus_output.specs.Output.{block_length};
 
@@ -10,6 +10,7 @@ use bus_stream::Session;
 use chain_record::Chain;
 use std::io::Read;
 
+// Stays: no Option is plainer: the session goes on after a failed write too, as `fed` promises.
 #[derive(Clone, Copy)]
 struct Run {
     session: Session,
@@ -17,90 +18,76 @@ struct Run {
     open: bool,
 }
 
-// The first n bytes of a block of input. Every answer goes out before the next read, since a host may wait for it.
+// A part of the input. Every answer goes out before the next read, since a host may wait for it.
 fn fed<R: Print + Eprint>(
     rt: &R,
-    block: &[u8],
-    n: usize,
+    part: &[u8],
     out: &mut [u8; BLOCK],
     file: &mut [u8],
     first: Run,
 ) -> Run
-    requires { n ≤ length block.now }
-    ensures { (result.session ≡ (fed_bytes (stream_of first.session file.old []) (take n block.now)).session) × (file.new ≡ (fed_bytes (stream_of first.session file.old []) (take n block.now)).file) }
+    ensures { (result.session ≡ (fed_bytes (stream_of first.session file.old []) part.now).session) × (file.new ≡ (fed_bytes (stream_of first.session file.old []) part.now).file) }
 {
     let mut r = first;
-    let mut i = 0;
-    while i < n {
-        let t = bus_stream::feed(&block[i..n], out, file, r.session);
+    let mut rest = part;
+    while !rest.is_empty() {
+        let t = bus_stream::feed(rest, out, file, r.session);
         let session = t.session;
-        r = Run {
-            session,
-            open: written(rt, out, t.at, r.open),
-        };
-        i += t.used;
+        let open = r.open && written(rt, &out[..t.at]);
+        r = Run { session, open };
+        rest = &rest[t.used..];
     }
     r
 }
 
-// Reads once. Gives 0 at the end of the input, when the read fails, and after a write has failed.
-fn filled<I: Read>(rt: &impl Eprint, input: &mut I, block: &mut [u8; BLOCK], open: bool) -> usize
-    ensures { result ≤ block_length }
+// Reads once: how much came, and nothing at the end of the input or where the read fails, which is said.
+fn filled<I: Read>(rt: &impl Eprint, input: &mut I, block: &mut [u8; BLOCK]) -> Option<usize>
+    ensures { IfSome result (λ n. n ≤ block_length) }
 {
-    if !open {
-        return 0;
-    }
     match input.read(block) {
-        Ok(n) => n,
+        Ok(0) => None,
+        Ok(n) => Some(n),
         Err(why) => {
             fail(rt, "standard input", &why);
-            0
+            None
         }
     }
 }
 
-// Reads to the end of the input.
+// Reads to the end of the input, or until a write has failed.
 // A proved loop must end, so this one counts its turns up to a number that no run reaches.
 fn run_all<R: Print + Eprint, I: Read>(
     rt: &R,
     input: &mut I,
-    block: &mut [u8; BLOCK],
     out: &mut [u8; BLOCK],
     file: &mut [u8],
     first: Run,
 ) -> Run {
+    let mut block = [0u8; BLOCK];
     let mut r = first;
+    // Stays: rt.forever() needs a Wait bound, which no function may gain, so the turns are counted up to what no run reaches.
     for _ in 0..u64::MAX {
-        let n = filled(rt, input, block, r.open);
-        if n == 0 {
+        if !r.open {
             break;
         }
-        r = fed(rt, block, n, out, file, r);
+        let Some(n) = filled(rt, input, &mut block) else {
+            break;
+        };
+        r = fed(rt, &block[..n], out, file, r);
     }
     r
 }
 
-fn serve_in<R: Print + Eprint, I: Read>(
-    rt: &R,
-    chain: Chain,
-    file: &mut [u8],
-    input: &mut I,
-    block: &mut [u8; BLOCK],
-    out: &mut [u8; BLOCK],
-) {
+// Answers every line of standard input.
+pub fn serve<R: Input + Print + Eprint>(rt: &R, chain: Chain, file: &mut [u8]) {
+    let mut out = [0u8; BLOCK];
     let first = Run {
         session: bus_stream::opened(chain),
         open: true,
     };
-    let r = run_all(rt, input, block, out, file, first);
-    let n = bus_stream::close(out, file, r.session);
-    written(rt, out, n, r.open);
-}
-
-// Answers every line of standard input.
-pub fn serve<R: Input + Print + Eprint>(rt: &R, chain: Chain, file: &mut [u8]) {
-    let mut input = rt.reader();
-    let mut block = [0u8; BLOCK];
-    let mut out = [0u8; BLOCK];
-    serve_in(rt, chain, file, &mut input, &mut block, &mut out);
+    let r = run_all(rt, &mut rt.reader(), &mut out, file, first);
+    let n = bus_stream::close(&mut out, file, r.session);
+    if r.open {
+        written(rt, &out[..n]);
+    }
 }

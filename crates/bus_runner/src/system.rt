@@ -35,12 +35,9 @@ pub fn words<R: Env>(rt: &R, most: usize) -> usize
     ensures { result ≤ most }
 {
     let mut next = [0u8; 1];
-    for i in 0..most {
-        if let Err(FillError::NotPresent) = rt.arg(i, &mut next) {
-            return i;
-        }
-    }
-    most
+    (0..most)
+        .find(|i| matches!(rt.arg(*i, &mut next), Err(FillError::NotPresent)))
+        .unwrap_or(most)
 }
 
 // A word as text; where it is none, why is said.
@@ -63,6 +60,7 @@ pub fn read_full<F: Read>(from: &mut F, room: &mut [u8]) -> io::Result<usize>
     ensures bytes { IfOk result (λ n. Consumes (F.remaining from.old) (F.remaining from.new) (take n room.new)) }
     ensures end { IfOk result (λ n. n < length room.new → IsAtEnd (F.remaining from.new)) }
 {
+    // Stays: no plainer otherwise: how far the room is filled is the answer itself.
     let mut done = 0;
     while done < room.len() {
         let n = from.read(&mut room[done..])?;
@@ -72,4 +70,11 @@ pub fn read_full<F: Read>(from: &mut F, room: &mut [u8]) -> io::Result<usize>
         done += n;
     }
     Ok(done)
+}
+
+// Whether a file has no byte past those read.
+pub fn at_end<F: Read>(from: &mut F) -> io::Result<bool> {
+    let mut next = [0u8; 1];
+    let n = from.read(&mut next)?;
+    Ok(n == 0)
 }

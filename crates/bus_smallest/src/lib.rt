@@ -20,9 +20,10 @@ pub fn drive(slot: u8) -> Profile
         track: Position(Shape::SHORTEST_TRACK),
         sector: SectorSize(512),
     };
-    let mut p = Profile::blank();
-    p.slot = slot;
-    p.general = 0x0242;
-    p.shape = shape;
-    p
+    Profile {
+        slot,
+        general: 0x0242,
+        shape,
+        ..Profile::blank()
+    }
 }

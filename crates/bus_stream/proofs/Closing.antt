@@ -2,16 +2,17 @@
 use Rattle.std.proofs.Common.{◌≡◌, ℕ, true, false, List, ap, arith}
 use Rattle.bus_text.specs.Scan.{has_byte_of}
 use Rattle.bus_output.proofs.Output.{held}
-use Rattle.bus_stream.specs.declared.Session.{Session}
-use Rattle.bus_stream.specs.declared.Waiting.{Waiting}
+use Rattle.bus_text.specs.declared.Scan.{Scan}
+use Rattle.bus_session.specs.declared.Session.{Session}
+use Rattle.bus_session.specs.declared.Waiting.{Waiting}
 use Rattle.bus_stream.specs.Stream.{closed_of}
 use Rattle.bus_stream.specs.Kept.{Answers, Closes}
 
-pub closes_empty : (s : Session) (file out : List ℕ) → has_byte_of s.scan ≡ false → Closes s file out 0 file out
+pub closes_empty : (s : Session Scan) (file out : List ℕ) → has_byte_of s.at ≡ false → Closes s file out 0 file out
 unfolding closed_of
 closes_empty s file out e = record { is = simp e; keeps = simp e; holds = simp e; within = omega arith }
 
-pub closes_line : (s : Session) (file out : List ℕ) (r : Waiting) (file' out' : List ℕ) → has_byte_of s.scan ≡ true
+pub closes_line : (s : Session Scan) (file out : List ℕ) (r : Waiting Scan) (file' out' : List ℕ) → has_byte_of s.at ≡ true
     → Answers s file out 0 r file' out' → Closes s file out r.at file' out'
 unfolding closed_of
 closes_line s file out r file' out' e a =

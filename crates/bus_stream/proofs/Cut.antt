@@ -1,14 +1,16 @@
 -- "reads event lines from standard input": wherever the input is cut, what is put out is the whole text's answers, none lost and none twice.
-use Rattle.std.proofs.Common.{◌≡◌, ℕ, ◌+◌, ◌-◌, ◌≤◌, Bool, true, false, ◌&&◌, eqb, List, [], ◌∷◌, ◌++◌, length, take, drop, sym, refl, ap, ◌∙◌, append_assoc, append-nil, arith, length-drop, length-take-le, take-take, take-add}
+use Rattle.std.proofs.Common.{◌≡◌, ℕ, ◌+◌, ◌-◌, ◌≤◌, Bool, true, false, ◌&&◌, eqb, List, [], ◌∷◌, ◌++◌, length, take, drop, sym, refl, ap, ◌∙◌, append_assoc, append-nil, arith, length-drop, drop-drop, take-add}
+use Rattle.std.proofs.Math.Seq.{take_all}
 use mathlib.Core.List.{flatten}
 use Rattle.std.specs.Prelude.{if◌then◌else◌}
 use Rattle.counts.proofs.Choice.{either_way}
 use Rattle.chain_record.specs.declared.Chain.{Chain}
 use Rattle.bus_text.specs.TextBytes.{newline}
 use Rattle.bus_text.specs.Scan.{fed_of, has_byte_of}
-use Rattle.bus_stream.specs.declared.Session.{Session}
+use Rattle.bus_text.specs.declared.Scan.{Scan}
+use Rattle.bus_session.specs.declared.Session.{Session}
 use Rattle.bus_stream.specs.Stream.{Stream, stream_of, opened_of, answered_of, scanned_of, fed_byte, fed_bytes, closed_of, answers_of}
-use Rattle.bus_stream.specs.declared.Turn.{Turn}
+use Rattle.bus_session.specs.declared.Turn.{Turn}
 use Rattle.bus_stream.specs.Parts.{is_full, fitting_bytes, parts_answers}
 use Rattle.bus_stream.specs.Kept.{Fed}
 
@@ -37,8 +39,8 @@ module _ (o : List ℕ) where
   unfolding fed_byte
   byte_behind t b = at_test (eqb b newline)
     where
-      at_test : (e : Bool) → (if e then answered_of (behind o t) else (scanned_of (behind o t) (fed_of t.session.scan b)))
-          ≡ behind o (if e then answered_of t else (scanned_of t (fed_of t.session.scan b)))
+      at_test : (e : Bool) → (if e then answered_of (behind o t) else (scanned_of (behind o t) (fed_of t.session.at b)))
+          ≡ behind o (if e then answered_of t else (scanned_of t (fed_of t.session.at b)))
       at_test true = answered_behind t
       at_test false = refl
 
@@ -48,14 +50,14 @@ module _ (o : List ℕ) where
 
   closed_behind : (t : Stream) → closed_of (behind o t) ≡ behind o (closed_of t)
   unfolding closed_of
-  closed_behind t = at_test (has_byte_of t.session.scan)
+  closed_behind t = at_test (has_byte_of t.session.at)
     where
       at_test : (e : Bool) → (if e then answered_of (behind o t) else (behind o t)) ≡ behind o (if e then answered_of t else t)
       at_test true = answered_behind t
       at_test false = refl
 
 -- a part and then a part: the second is run from an output with nothing waiting
-whole_behind : (p q : List ℕ) (s : Session) (file : List ℕ) →
+whole_behind : (p q : List ℕ) (s : Session Scan) (file : List ℕ) →
     let t = fed_bytes (stream_of s file []) p in
     fed_bytes (stream_of s file []) (p ++ q) ≡ behind t.out (fed_bytes (stream_of t.session t.file []) q)
 whole_behind p q s file =
@@ -63,7 +65,7 @@ whole_behind p q s file =
     let e : t ≡ behind t.out (stream_of t.session t.file []) = ap (λ (l : List ℕ). stream_of t.session t.file l) (sym (append-nil t.out)) in
     fed_behind p q (stream_of s file []) ∙ ap (λ (v : Stream). fed_bytes v q) e ∙ bytes_behind t.out q (stream_of t.session t.file [])
 
-parts_join : (ps : List (List ℕ)) (s : Session) (file : List ℕ) → parts_answers s file ps ≡ (closed_of (fed_bytes (stream_of s file []) (flatten ps))).out
+parts_join : (ps : List (List ℕ)) (s : Session Scan) (file : List ℕ) → parts_answers s file ps ≡ (closed_of (fed_bytes (stream_of s file []) (flatten ps))).out
 unfolding flatten
 parts_join [] s file = refl
 parts_join (p ∷ ps) s file =
@@ -75,19 +77,36 @@ parts_join (p ∷ ps) s file =
 pub cut_anywhere : (c : Chain) (file : List ℕ) (parts : List (List ℕ)) → parts_answers (opened_of c) file parts ≡ answers_of c file (flatten parts)
 cut_anywhere c file parts = parts_join parts (opened_of c) file
 
--- "chain and file": those that the first i bytes of a block left go on through a turn over the next
-pub turn_threads : (block file₀ : List ℕ) (i n : ℕ) (s₀ : Session) {file out file' out' : List ℕ} {s : Session} {r : Turn} → i ≤ n → n ≤ length block
-    → s ≡ (fed_bytes (stream_of s₀ file₀ []) (take i block)).session → file ≡ (fed_bytes (stream_of s₀ file₀ []) (take i block)).file
-    → Fed (take (n - i) (drop i block)) s file out r file' out'
-    → (r.session ≡ (fed_bytes (stream_of s₀ file₀ []) (take (i + r.used) block)).session)
-    × (file' ≡ (fed_bytes (stream_of s₀ file₀ []) (take (i + r.used) block)).file)
-turn_threads block file₀ i n s₀ {file = file} {s = s} {r = r} h k e f a =
-    let part = take (n - i) (drop i block) in
+-- "chain and file": those that a block's first bytes left, and the bytes that are left
+pub record Threads (block file₀ : List ℕ) (s₀ : Session Scan) (left : List ℕ) (s : Session Scan) (file : List ℕ) : Type 0 where
+  pub used : ℕ
+  pub is : left ≡ drop used block
+  pub session_is : s ≡ (fed_bytes (stream_of s₀ file₀ []) (take used block)).session
+  pub file_is : file ≡ (fed_bytes (stream_of s₀ file₀ []) (take used block)).file
+
+pub threads_none : (block file : List ℕ) (s : Session Scan) → Threads block file s block s file
+threads_none block file s = record { used = 0; is = refl; session_is = refl; file_is = refl }
+
+-- they go on through a turn over those
+pub turn_threads : {block file₀ left file out file' out' : List ℕ} {s₀ s : Session Scan} {r : Turn Scan} → Threads block file₀ s₀ left s file
+    → Fed left s file out r file' out' → Threads block file₀ s₀ (drop r.used left) r.session file'
+turn_threads {block} {file₀} {left} {file} {s₀ = s₀} {s} {r} h a =
     let t = stream_of s file [] in
-    let u : r.used ≡ length (fitting_bytes t part) = ap (λ (x : Turn). x.used) a.is in
-    let l : length part ≡ n - i = length-take-le (n - i) (drop i block) (omega (arith, length-drop i block)) in
-    let g : fitting_bytes t part ≡ take r.used (drop i block) =
-    sym (used_first part t) ∙ ap (λ (x : ℕ). take x part) (sym u) ∙ take-take r.used (n - i) (drop i block) (omega (arith, a.used)) in
-    let w : fed_bytes (stream_of s₀ file₀ []) (take (i + r.used) block) ≡ behind (fed_bytes (stream_of s₀ file₀ []) (take i block)).out (fed_bytes t (fitting_bytes t part)) =
-    rw (take-add, g, e, f) (whole_behind (take i block) (take r.used (drop i block)) s₀ file₀) in
-    (ap (λ (x : Turn). x.session) a.is ∙ sym (ap (λ (v : Stream). v.session) w), a.keeps ∙ sym (ap (λ (v : Stream). v.file) w))
+    let u : r.used ≡ length (fitting_bytes t left) = ap (λ (x : Turn Scan). x.used) a.is in
+    let g : fitting_bytes t left ≡ take r.used (drop h.used block) =
+    sym (used_first left t) ∙ ap (λ (x : ℕ). take x left) (sym u) ∙ ap (λ (l : List ℕ). take r.used l) h.is in
+    let w : fed_bytes (stream_of s₀ file₀ []) (take (h.used + r.used) block) ≡ behind (fed_bytes (stream_of s₀ file₀ []) (take h.used block)).out (fed_bytes t (fitting_bytes t left)) =
+    rw (take-add, g, h.session_is, h.file_is) (whole_behind (take h.used block) (take r.used (drop h.used block)) s₀ file₀) in
+    record {
+      used = h.used + r.used;
+      is = rw h.is (drop-drop r.used h.used block);
+      session_is = ap (λ (x : Turn Scan). x.session) a.is ∙ sym (ap (λ (v : Stream). v.session) w);
+      file_is = a.keeps ∙ sym (ap (λ (v : Stream). v.file) w);
+    }
+
+-- to the block's end
+pub threads_end : {block file₀ left file : List ℕ} {s₀ s : Session Scan} → Threads block file₀ s₀ left s file → length left ≡ 0
+    → (s ≡ (fed_bytes (stream_of s₀ file₀ []) block).session) × (file ≡ (fed_bytes (stream_of s₀ file₀ []) block).file)
+threads_end {block} h n =
+    let e : take h.used block ≡ block = take_all h.used block (omega (arith, n, ap length h.is, length-drop h.used block)) in
+    (rw e at h.session_is, rw e at h.file_is)

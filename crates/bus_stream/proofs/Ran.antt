@@ -1,18 +1,18 @@
 -- The chain and the file that a text leaves are those of `run` over its events: the same `run` that the theorems on chains speak of.
 use Rattle.std.proofs.Common.{◌≡◌, ℕ, Bool, true, false, eqb, List, [], ◌∷◌, ◌++◌, sym, refl, ap, ◌∙◌, append-nil}
-use Rattle.std.specs.Prelude.{if◌then◌else◌}
+use Rattle.std.specs.Prelude.{if◌then◌else◌, Option, None, Some}
 use Rattle.chain_record.specs.declared.Chain.{Chain}
 use Rattle.event.specs.Numbers.{Numbers}
 use Rattle.chain_step.specs.Run.{Lent, lent, lent_through, run}
 use Rattle.bus_text.specs.declared.Scan.{Scan}
-use Rattle.bus_text.specs.declared.Line.{Line}
-use Rattle.bus_text.specs.declared.Line.TheVariants as line
+use Rattle.bus_text.specs.declared as text
 use Rattle.bus_text.specs.TextBytes.{newline}
 use Rattle.bus_text.specs.Whole.{line_of}
 use Rattle.bus_text.specs.Scan.{fresh_scan, fed_of, fed_all}
 use Rattle.bus_text.proofs.Reading.{byte_seen}
 use Rattle.bus_reply.specs.Reply.{reply_of, reply_file, line_count, line_answer}
-use Rattle.bus_stream.specs.Stream.{Stream, stream_of, session_of, opened_of, answered_of, scanned_of, fed_byte, fed_bytes, closed_of}
+use Rattle.bus_session.specs.Session.{session_of}
+use Rattle.bus_stream.specs.Stream.{Stream, stream_of, opened_of, answered_of, scanned_of, fed_byte, fed_bytes, closed_of}
 use Rattle.bus_stream.specs.EventLines.{on_first, split_lines}
 use Rattle.bus_stream.specs.LineEvents.{event_on, events_in}
 use Rattle.bus_stream.proofs.Whole.{begun, begun_none, begun_more, fed_more, reading, answered_is}
@@ -21,10 +21,10 @@ abbrev lent_of : Stream → Lent
 lent_of t = lent t.session.chain t.file
 
 -- a line's reply is its event, or leaves all
-reply_runs : (l : Line) (rest : List Numbers) (c : Chain) (file : List ℕ)
+reply_runs : (l : Option text.Numbers.Numbers) (rest : List Numbers) (c : Chain) (file : List ℕ)
     → lent_through rest (lent (reply_of c file l).chain (reply_file c file l)) ≡ lent_through (event_on l rest) (lent c file)
-reply_runs (line.Numbers kind a b) rest c file = refl
-reply_runs line.Unreadable rest c file = refl
+reply_runs (Some n) rest c file = refl
+reply_runs None rest c file = refl
 
 abbrev Runs : List ℕ → Type 0
 Runs text = (w : List ℕ) (n : ℕ) (c : Chain) (file out : List ℕ)

@@ -6,7 +6,8 @@ use Rattle.bus_text.specs.TextBytes.{newline}
 use Rattle.bus_text.specs.declared.Stop.{Stop}
 use Rattle.bus_text.specs.Scan.{fed_of, fed_all}
 use Rattle.bus_text.specs.TextLines.{first_line, line_stop}
-use Rattle.bus_stream.specs.declared.Session.{Session}
+use Rattle.bus_text.specs.declared.Scan.{Scan}
+use Rattle.bus_session.specs.declared.Session.{Session}
 use Rattle.bus_stream.specs.Stream.{Stream, stream_of, answered_of, scanned_of, fed_byte}
 use Rattle.bus_stream.specs.Parts.{is_full, fitting_bytes, ran_of}
 
@@ -22,7 +23,7 @@ goes_then : {t u v : Stream} {l m n : List ℕ} {i j k : ℕ} → j + k ≡ i �
 goes_then e g h = record { ran = g.ran ∙ h.ran; uses = omega (arith, e, g.uses, h.uses) }
 
 -- a byte of the line
-goes_byte : (t : Stream) (b : ℕ) (l : List ℕ) → eqb b newline ≡ false → Goes t (b ∷ l) 1 (scanned_of t (fed_of t.session.scan b)) l
+goes_byte : (t : Stream) (b : ℕ) (l : List ℕ) → eqb b newline ≡ false → Goes t (b ∷ l) 1 (scanned_of t (fed_of t.session.at b)) l
 unfolding fitting_bytes fed_byte
 goes_byte t b l e = record { ran = simp e; uses = simp e (omega arith) }
 
@@ -33,14 +34,14 @@ goes_newline t l e = record { ran = simp e; uses = simp e (omega arith) }
 
 -- the bytes of a line up to its newline
 abbrev Scans : Stream → List ℕ → List ℕ → Type 0
-Scans t l w = Goes t l (length w) (scanned_of t (fed_all t.session.scan w)) (drop (length w) l)
+Scans t l w = Goes t l (length w) (scanned_of t (fed_all t.session.at w)) (drop (length w) l)
 
 goes_line : (l : List ℕ) (t : Stream) → Scans t l (first_line l)
 unfolding first_line
 goes_line [] t = goes_none t []
 goes_line (b ∷ l) t =
     by_test (Scans t (b ∷ l)) (eqb b newline) [] (b ∷ first_line l) (λ e. goes_none t (b ∷ l))
-    (λ e. goes_then (omega arith) (goes_byte t b l e) (goes_line l (scanned_of t (fed_of t.session.scan b))))
+    (λ e. goes_then (omega arith) (goes_byte t b l e) (goes_line l (scanned_of t (fed_of t.session.at b))))
 
 -- what stands behind it
 abbrev Ends : List ℕ → List ℕ → Type 0
@@ -53,7 +54,7 @@ line_ends (b ∷ l) =
     by_test (Ends (b ∷ l)) (eqb b newline) [] (b ∷ first_line l) (λ e h. ap (λ (x : ℕ). x ∷ l) (eqb-true b newline e)) (λ e h. line_ends l (omega arith))
 
 -- a line of the part: it was run up to the place n, and the line that goes on there stops as told
-module _ {t : Stream} {part : List ℕ} {n : ℕ} {u : Stream} {stop : Stop} (g : Goes t part n u (drop n part)) (e : stop ≡ line_stop (drop n part) u.session.scan) where
+module _ {t : Stream} {part : List ℕ} {n : ℕ} {u : Stream} {stop : Stop} (g : Goes t part n u (drop n part)) (e : stop ≡ line_stop (drop n part) u.session.at) where
   pub over_line : Goes t part (n + stop.at) (scanned_of u stop.scan) (drop (n + stop.at) part)
   over_line = rw e (rw drop-drop at (goes_then refl g (goes_line (drop n part) u)))
 
@@ -84,7 +85,7 @@ pub run_ends : {t u : Stream} {l m : List ℕ} {k : ℕ} → Goes t l k u m → 
 run_ends g e = (g.ran ∙ rw e, omega (arith, g.uses, ap length e))
 
 -- an empty output has room for a line, so a part that has a byte is used further
-pub first_used : (s : Session) (file l : List ℕ) → 0 < length l → 0 < length (fitting_bytes (stream_of s file []) l)
+pub first_used : (s : Session Scan) (file l : List ℕ) → 0 < length l → 0 < length (fitting_bytes (stream_of s file []) l)
 unfolding fitting_bytes
 first_used s file [] h = absurd (omega arith)
 first_used s file (b ∷ l) h =

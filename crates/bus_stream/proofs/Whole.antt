@@ -1,15 +1,16 @@
 -- "Each output line: input line count, answer, value, and .. a sum": what is put out byte by byte is the answer lines of the text's lines.
 use Rattle.std.proofs.Common.{◌≡◌, ℕ, Bool, true, false, eqb, List, [], ◌∷◌, ◌++◌, sym, refl, ap, ◌∙◌, append_assoc, append-nil}
-use Rattle.std.specs.Prelude.{if◌then◌else◌}
+use Rattle.std.specs.Prelude.{if◌then◌else◌, Option}
 use Rattle.chain_record.specs.declared.Chain.{Chain}
 use Rattle.bus_text.specs.TextBytes.{newline}
-use Rattle.bus_text.specs.declared.Line.{Line}
+use Rattle.bus_text.specs.declared.Numbers.{Numbers}
 use Rattle.bus_text.specs.declared.Scan.{Scan}
 use Rattle.bus_text.specs.Whole.{line_of, has_any}
 use Rattle.bus_text.specs.Scan.{fresh_scan, fed_of, fed_all}
 use Rattle.bus_text.proofs.Reading.{line_read, byte_seen}
 use Rattle.bus_reply.specs.Reply.{reply_of, reply_file, line_count, line_answer}
-use Rattle.bus_stream.specs.Stream.{Stream, stream_of, session_of, replied_of, answered_of, scanned_of, fed_byte, fed_bytes, closed_of, answers_of}
+use Rattle.bus_session.specs.Session.{session_of}
+use Rattle.bus_stream.specs.Stream.{Stream, stream_of, replied_of, answered_of, scanned_of, fed_byte, fed_bytes, closed_of, answers_of}
 use Rattle.bus_stream.specs.EventLines.{on_first, split_lines, lines_answers}
 
 -- the lines of a text whose first line has begun
@@ -43,7 +44,7 @@ Lined text = (w : List ℕ) (n : ℕ) (c : Chain) (file out : List ℕ)
 
 pub answered_is : (w : List ℕ) (n : ℕ) (c : Chain) (file out : List ℕ) → answered_of (reading w n c file out) ≡ replied_of c n file out (line_of w)
 unfolding answered_of
-answered_is w n c file out = ap (λ (l : Line). replied_of c n file out l) (line_read w)
+answered_is w n c file out = ap (λ (l : Option Numbers). replied_of c n file out l) (line_read w)
 
 lined_end : Lined []
 unfolding closed_of split_lines

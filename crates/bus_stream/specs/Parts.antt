@@ -4,8 +4,9 @@ use Rattle.std.specs.Prelude.{if◌then◌else◌}
 use Rattle.bus_text.specs.TextBytes.{newline}
 use Rattle.bus_text.specs.AnswerLine.{longest_line}
 use Rattle.bus_output.specs.Output.{block_length}
-use Rattle.bus_stream.specs.declared.Session.{Session}
-use Rattle.bus_stream.specs.declared.Turn.{Turn}
+use Rattle.bus_text.specs.declared.Scan.{Scan}
+use Rattle.bus_session.specs.declared.Session.{Session}
+use Rattle.bus_session.specs.declared.Turn.{Turn}
 use Rattle.bus_stream.specs.Stream.{Stream, stream_of, fed_byte, fed_bytes, closed_of}
 
 -- whether the next answer might not fit
@@ -21,11 +22,11 @@ fitting_bytes t (b ∷ l) = if b == newline && is_full t then [] else (b ∷ fit
 abbrev pub ran_of : Stream → List ℕ → Stream
 ran_of t part = fed_bytes t (fitting_bytes t part)
 
-abbrev pub turn_of : Stream → List ℕ → Turn
+abbrev pub turn_of : Stream → List ℕ → Turn Scan
 turn_of t part = record { session = (ran_of t part).session; used = length (fitting_bytes t part); at = length (ran_of t part).out }
 
 -- the whole input in parts, each run on what the one before left and from an output with nothing waiting, and then its end
-abbrev pub parts_answers : Session → List ℕ → List (List ℕ) → List ℕ
+abbrev pub parts_answers : Session Scan → List ℕ → List (List ℕ) → List ℕ
 parts_answers s file [] = (closed_of (stream_of s file [])).out
 parts_answers s file (p ∷ ps) =
     let t = fed_bytes (stream_of s file []) p in

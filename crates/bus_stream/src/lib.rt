@@ -10,32 +10,15 @@ ghost use Rattle.bus_stream.specs.Kept.{Answers, Fed, Closes};
 
 use bus_output::BLOCK;
 use bus_text::Scan;
+use bus_text::put::LONGEST;
 use chain_record::Chain;
 
-// What one byte leaves to the next.
-#[derive(Clone, Copy)]
-pub struct Session {
-    pub chain: Chain,
-    // the line that is being read
-    pub scan: Scan,
-    // how many lines were answered
-    pub lines: u64,
-}
+// A session reaches the line that is being read.
+pub type Session = bus_session::Session<Scan>;
 
-// A session, and how much of the output waits.
-#[derive(Clone, Copy)]
-pub struct Waiting {
-    pub session: Session,
-    pub at: usize,
-}
+pub type Waiting = bus_session::Waiting<Scan>;
 
-// What a part of the input leaves, and how much of the part was used.
-#[derive(Clone, Copy)]
-pub struct Turn {
-    pub session: Session,
-    pub used: usize,
-    pub at: usize,
-}
+pub type Turn = bus_session::Turn<Scan>;
 
 // A session at the input's first byte.
 pub fn opened(chain: Chain) -> Session
@@ -43,7 +26,7 @@ pub fn opened(chain: Chain) -> Session
 {
     Session {
         chain,
-        scan: Scan::fresh(),
+        at: Scan::fresh(),
         lines: 0,
     }
 }
@@ -54,43 +37,35 @@ fn answered(out: &mut [u8; BLOCK], at: usize, file: &mut [u8], s: Session) -> Wa
     requires { at + longest_line ≤ block_length }
     ensures { Answers s file.old out.old at result file.new out.new }
 {
-    let t = bus_reply::to_line(s.chain, file, bus_text::read::finish(s.scan));
-    let lines = std::num::wrapping_add_u64(s.lines, 1);
-    let chain = t.chain;
-    let next = bus_output::put(out, at, lines, t.answer, t.value, t.sum);
-    Waiting {
-        session: Session {
-            chain,
-            scan: Scan::fresh(),
-            lines,
-        },
-        at: next,
-    }
+    let reply = bus_reply::to_line(s.chain, file, bus_text::read::finish(s.at));
+    bus_session::answered(out, at, s.lines, reply, Scan::fresh())
 }
 
 // Runs a part of the input, from an output with nothing waiting, until the part is used up or the next answer might not fit.
+// Stays: no plainer: the contract, Fed, names out, file and session singly, so a struct of them would be taken apart in it.
 pub fn feed(part: &[u8], out: &mut [u8; BLOCK], file: &mut [u8], first: Session) -> Turn
     ensures { Fed part.now first file.old out.old result file.new out.new }
 {
     let mut session = first;
-    let mut used = 0;
+    let mut rest = part;
     let mut at = 0;
-    while used < part.len() {
-        let stop = bus_text::read::scan_on(&part[used..], session.scan);
+    while !rest.is_empty() {
+        let stop = bus_text::read::scan_on(rest, session.at);
         let scan = stop.scan;
-        session.scan = scan;
-        used += stop.at;
-        if used == part.len() {
+        session.at = scan;
+        rest = &rest[stop.at..];
+        if rest.is_empty() {
             break;
         }
-        if at > BLOCK - bus_text::put::LONGEST {
+        if at > BLOCK - LONGEST {
             break;
         }
         let w = answered(out, at, file, session);
         session = w.session;
         at = w.at;
-        used += 1; // the newline
+        rest = &rest[1..]; // behind the newline
     }
+    let used = part.len() - rest.len();
     Turn { session, used, at }
 }
 
@@ -98,7 +73,7 @@ pub fn feed(part: &[u8], out: &mut [u8; BLOCK], file: &mut [u8], first: Session)
 pub fn close(out: &mut [u8; BLOCK], file: &mut [u8], s: Session) -> usize
     ensures { Closes s file.old out.old result file.new out.new }
 {
-    if !bus_text::read::has_byte(s.scan) {
+    if !bus_text::read::has_byte(s.at) {
         return 0;
     }
     let w = answered(out, 0, file, s);

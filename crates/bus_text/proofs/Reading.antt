@@ -6,12 +6,11 @@ use mathlib.Core.Bool.{Bool, true, false, ◌&&◌}
 use native.Mathlib.Omega.{arith}
 use lib.Dec.{leb, eqb}
 use borrow.Author.Tests.{leb-true, leb-false, le-leb, lt-leb, lt-ltb}
-use Rattle.std.specs.Prelude.{if◌then◌else◌}
+use Rattle.std.specs.Prelude.{if◌then◌else◌, Option, None, Some}
 use Rattle.bus_text.specs.TextBytes.{is_digit, space}
 use Rattle.bus_text.specs.declared.Scan.{Scan}
-use Rattle.bus_text.specs.declared.Line.{Line}
-use Rattle.bus_text.specs.declared.Line.TheVariants.{Numbers, Unreadable}
-use Rattle.bus_text.specs.Whole.{all_digits, longer, value_from, digits_value, is_number, has_any, first_word, other_words, three_of, line_of}
+use Rattle.bus_text.specs.declared.Numbers.{Numbers}
+use Rattle.bus_text.specs.Whole.{numbers_of, all_digits, longer, value_from, digits_value, is_number, has_any, first_word, other_words, three_of, line_of}
 use Rattle.bus_text.specs.Scan.{scan_of, fresh_scan, spoiled_scan, parted_of, grown_of, fed_of, finish_of, fed_all, has_byte_of}
 use Rattle.counts.proofs.Choice.{either_way}
 
@@ -51,16 +50,16 @@ word_checked [] = refl
 word_checked (x ∷ w) = checked (x ∷ w) 0 (omega arith)
 
 -- what a line says whose present word is the number c where ok says so, and whose further words are ws
-abbrev judge : ℕ → ℕ → ℕ → Bool → ℕ → List (List ℕ) → Line
-judge n a b ok c [] = if eqb n 2 && ok then Numbers a b c else Unreadable
-judge n a b ok c (w ∷ ws) = if leb n 1 && ok then judge (n + 1) b c (goes_on false 0 w) (digits_value w) ws else Unreadable
+abbrev judge : ℕ → ℕ → ℕ → Bool → ℕ → List (List ℕ) → Option Numbers
+judge n a b ok c [] = if eqb n 2 && ok then Some (numbers_of a b c) else None
+judge n a b ok c (w ∷ ws) = if leb n 1 && ok then judge (n + 1) b c (goes_on false 0 w) (digits_value w) ws else None
 
-judge_and : (d ok : Bool) (ws : List (List ℕ)) (n a b c : ℕ) → judge n a b (d && ok) c ws ≡ (if d then judge n a b ok c ws else Unreadable)
+judge_and : (d ok : Bool) (ws : List (List ℕ)) (n a b c : ℕ) → judge n a b (d && ok) c ws ≡ (if d then judge n a b ok c ws else None)
 judge_and true ok ws n a b c = refl
 judge_and false ok [] n a b c = simp and_none
 judge_and false ok (w ∷ ws) n a b c = simp and_none
 
-three : (x y z : Bool) (l : Line) → (if x then if y then if z then l else Unreadable else Unreadable else Unreadable) ≡ (if x && (y && z) then l else Unreadable)
+three : (x y z : Bool) (l : Option Numbers) → (if x then if y then if z then l else None else None else None) ≡ (if x && (y && z) then l else None)
 three true true z l = refl
 three true false z l = refl
 three false y z l = refl
@@ -68,21 +67,21 @@ three false y z l = refl
 judged : (u : List ℕ) (ws : List (List ℕ)) → judge 0 0 0 (goes_on false 0 u) (digits_value u) ws ≡ three_of (u ∷ ws)
 unfolding three_of
 judged u [] = refl
-judged u (v ∷ []) = either_way (λ (l : Line). l ≡ Unreadable) (goes_on false 0 u) refl refl
-judged u (v ∷ w ∷ []) = simp word_checked (three (is_number u) (is_number v) (is_number w) (Numbers (digits_value u) (digits_value v) (digits_value w)))
+judged u (v ∷ []) = either_way (λ (l : Option Numbers). l ≡ None) (goes_on false 0 u) refl refl
+judged u (v ∷ w ∷ []) = simp word_checked (three (is_number u) (is_number v) (is_number w) (Some (numbers_of (digits_value u) (digits_value v) (digits_value w))))
 judged u (v ∷ w ∷ x ∷ ws) =
-    either_way (λ (l : Line). l ≡ Unreadable) (goes_on false 0 u) (either_way (λ (l : Line). l ≡ Unreadable) (goes_on false 0 v) refl refl) refl
+    either_way (λ (l : Option Numbers). l ≡ None) (goes_on false 0 u) (either_way (λ (l : Option Numbers). l ≡ None) (goes_on false 0 v) refl refl) refl
 
 -- a spoiled line stays so
-lost : (l : List ℕ) (c : ℕ) → finish_of (fed_all (scan_of 3 true 0 0 c) l) ≡ Unreadable
+lost : (l : List ℕ) (c : ℕ) → finish_of (fed_all (scan_of 3 true 0 0 c) l) ≡ None
 unfolding finish_of fed_of parted_of grown_of
 lost [] c = refl
 lost (x ∷ l) c =
-    let P : Scan → Type 0 = λ s. finish_of (fed_all s l) ≡ Unreadable in
+    let P : Scan → Type 0 = λ s. finish_of (fed_all s l) ≡ None in
     either_way P (eqb x space) (lost l 0) (either_way P (fits c x) (lost l (longer c x)) (lost l 0))
 
-or_lost : (d : Bool) (l : List ℕ) (s : Scan) {j : Line} → finish_of (fed_all s l) ≡ j →
-    finish_of (fed_all (if d then s else spoiled_scan) l) ≡ (if d then j else Unreadable)
+or_lost : (d : Bool) (l : List ℕ) (s : Scan) {j : Option Numbers} → finish_of (fed_all s l) ≡ j →
+    finish_of (fed_all (if d then s else spoiled_scan) l) ≡ (if d then j else None)
 or_lost true l s k = k
 or_lost false l s k = lost l 0
 

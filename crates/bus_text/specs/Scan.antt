@@ -1,11 +1,10 @@
 -- The same a byte at a time: what a line read so far leaves to remember. That it is the same is `line_read` of proofs/Reading.antt.
-use Rattle.std.specs.Prelude.{ℕ, ◌+◌, List, [], ◌∷◌, Bool, true, false, ◌&&◌, ◌||◌, leb, ltb, eqb}
+use Rattle.std.specs.Prelude.{ℕ, ◌+◌, List, [], ◌∷◌, Bool, true, false, ◌&&◌, ◌||◌, leb, ltb, eqb, Option, None, Some}
 use Rattle.std.specs.Prelude.{if◌then◌else◌}
 use Rattle.bus_text.specs.declared.Scan.{Scan}
-use Rattle.bus_text.specs.declared.Line.{Line}
-use Rattle.bus_text.specs.declared.Line.TheVariants.{Numbers, Unreadable}
+use Rattle.bus_text.specs.declared.Numbers.{Numbers}
 use Rattle.bus_text.specs.TextBytes.{space, is_digit}
-use Rattle.bus_text.specs.Whole.{longer}
+use Rattle.bus_text.specs.Whole.{numbers_of, longer}
 
 abbrev pub scan_of : ℕ → Bool → ℕ → ℕ → ℕ → Scan
 scan_of spaces begun first second third =
@@ -31,8 +30,8 @@ unfoldable pub fed_of : Scan → ℕ → Scan
 fed_of s b = if eqb b space then parted_of s else (grown_of s b)
 
 -- "three decimal numbers": two spaces, and the word behind the second has a byte
-unfoldable pub finish_of : Scan → Line
-finish_of s = if eqb s.spaces 2 && s.begun then Numbers s.first s.second s.third else Unreadable
+unfoldable pub finish_of : Scan → Option Numbers
+finish_of s = if eqb s.spaces 2 && s.begun then Some (numbers_of s.first s.second s.third) else None
 
 -- "the last newline may be missing": whether the line has a byte
 abbrev pub has_byte_of : Scan → Bool

@@ -1,13 +1,15 @@
 -- What a whole event line says. Document 01, answer 19: "line isn't three decimal numbers up to 65,535, one space between ..".
-use Rattle.std.specs.Prelude.{ℕ, ◌+◌, ◌*◌, ◌-◌, List, [], ◌∷◌, Bool, true, false, ◌&&◌, leb, eqb}
+use Rattle.std.specs.Prelude.{ℕ, ◌+◌, ◌*◌, ◌-◌, List, [], ◌∷◌, Bool, true, false, ◌&&◌, leb, eqb, Option, None, Some}
 use Rattle.std.specs.Prelude.{if◌then◌else◌}
 use Rattle.bus_text.specs.TextBytes.{space, digit_byte, is_digit}
-use Rattle.bus_text.specs.declared.Line.{Line}
-use Rattle.bus_text.specs.declared.Line.TheVariants.{Numbers, Unreadable}
+use Rattle.bus_text.specs.declared.Numbers.{Numbers}
 
--- "19 | runner only": the number of Unreadable; a line of three numbers has none of its own, since the board answers it
+-- "19 | runner only": the number of a line that says nothing; a line of three numbers has none of its own, since the board answers it
 abbrev pub unreadable_number : ℕ
 unreadable_number = 19
+
+abbrev pub numbers_of : ℕ → ℕ → ℕ → Numbers
+numbers_of kind a b = record { kind = kind; a = a; b = b }
 
 -- "digits only"
 abbrev pub all_digits : List ℕ → Bool
@@ -46,13 +48,13 @@ other_words [] = []
 other_words (b ∷ l) = if eqb b space then first_word l ∷ other_words l else (other_words l)
 
 -- "three decimal numbers"
-unfoldable pub three_of : List (List ℕ) → Line
-three_of [] = Unreadable
-three_of (u ∷ []) = Unreadable
-three_of (u ∷ v ∷ []) = Unreadable
+unfoldable pub three_of : List (List ℕ) → Option Numbers
+three_of [] = None
+three_of (u ∷ []) = None
+three_of (u ∷ v ∷ []) = None
 three_of (u ∷ v ∷ w ∷ []) =
-    if is_number u && (is_number v && is_number w) then Numbers (digits_value u) (digits_value v) (digits_value w) else Unreadable
-three_of (u ∷ v ∷ w ∷ x ∷ ws) = Unreadable
+    if is_number u && (is_number v && is_number w) then Some (numbers_of (digits_value u) (digits_value v) (digits_value w)) else None
+three_of (u ∷ v ∷ w ∷ x ∷ ws) = None
 
-unfoldable pub line_of : List ℕ → Line
+unfoldable pub line_of : List ℕ → Option Numbers
 line_of l = three_of (first_word l ∷ other_words l)

@@ -3,7 +3,7 @@ ghost use Rattle.std.specs.Prelude.{◌≡◌, ◌≤◌, length};
 ghost use Rattle.bus_text.specs.Scan.{parted_of, grown_of, fed_of, finish_of, has_byte_of};
 ghost use Rattle.bus_text.specs.TextLines.{line_stop};
 
-use crate::{Line, Scan, Stop};
+use crate::{Numbers, Scan, Stop};
 
 // A space ends a word that has a byte, and begins the second or the third.
 #[tactic(auto, unfolding(crate::specs::Scan::parted_of))]
@@ -41,11 +41,9 @@ fn grown(s: Scan, byte: u8) -> Scan
         return Scan::SPOILED;
     }
     Scan {
-        spaces: s.spaces,
         begun: true,
-        first: s.first,
-        second: s.second,
         third: number as u16,
+        ..s
     }
 }
 
@@ -60,18 +58,22 @@ fn fed(s: Scan, byte: u8) -> Scan
     grown(s, byte)
 }
 
-// What the line says at its end.
+// What the line says at its end: none where it can't be read.
 #[tactic(auto, unfolding(crate::specs::Scan::finish_of))]
-pub fn finish(s: Scan) -> Line
+pub fn finish(s: Scan) -> Option<Numbers>
     ensures { result ≡ finish_of s }
 {
     if s.spaces != 2 {
-        return Line::Unreadable;
+        return None;
     }
     if !s.begun {
-        return Line::Unreadable;
+        return None;
     }
-    Line::Numbers(s.first, s.second, s.third)
+    Some(Numbers {
+        kind: s.first,
+        a: s.second,
+        b: s.third,
+    })
 }
 
 // Whether the line has a byte. Behind the last newline a line without one does not count.
@@ -85,15 +87,15 @@ pub fn has_byte(s: Scan) -> bool
 pub fn scan_on(part: &[u8], scan: Scan) -> Stop
     ensures { (result ≡ line_stop part.now scan) × (result.at ≤ length part.now) }
 {
-    let mut at = 0;
     let mut s = scan;
-    while at < part.len() {
-        let byte = part[at];
+    for (at, &byte) in part.iter().enumerate() {
         if byte == b'\n' {
             return Stop { at, scan: s };
         }
         s = fed(s, byte);
-        at += 1;
     }
-    Stop { at, scan: s }
+    Stop {
+        at: part.len(),
+        scan: s,
+    }
 }

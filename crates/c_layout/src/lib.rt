@@ -11,6 +11,7 @@ use handshake::Transfer;
 use lines::Lines;
 use pack_profile::{Profile, Shape, Times};
 use pack_read::Pack;
+use std::array;
 
 fn profile() -> Profile
     ensures { result ≡ marked_profile }
@@ -110,29 +111,13 @@ fn lines() -> Lines
 fn all_packs() -> [Pack; SLOTS]
     ensures { result ≡ marked_packs }
 {
-    [
-        pack_of(33_554_433),
-        pack_of(33_554_434),
-        pack_of(33_554_435),
-        pack_of(33_554_436),
-        pack_of(33_554_437),
-        pack_of(33_554_438),
-        pack_of(33_554_439),
-    ]
+    array::from_fn(|i| pack_of(33_554_433 + i as u32))
 }
 
 fn all_states() -> [State; SLOTS]
     ensures { result ≡ marked_states }
 {
-    [
-        state_of(50_331_649),
-        state_of(50_331_650),
-        state_of(50_331_651),
-        state_of(50_331_652),
-        state_of(50_331_653),
-        state_of(50_331_654),
-        state_of(50_331_655),
-    ]
+    array::from_fn(|i| state_of(50_331_649 + i as u32))
 }
 
 #[tactic(auto, unfolding(crate::specs::Marks::marked_chain))]

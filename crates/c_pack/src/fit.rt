@@ -1,40 +1,31 @@
 // A chain fitted from a pack file; a refused file leaves the record as it was.
 ghost use Rattle.std.specs.Prelude.{◌≡◌};
-ghost use Rattle.c_pack.specs.Fit.{fitted_or, read_code, lent_fit};
+ghost use Rattle.c_pack.specs.Fit.{refusal_code, lent_fit};
 
-use crate::Coded;
+use crate::{Coded, HIGH_HALF};
 use chain_record::Chain;
-use pack_read::read::Reading;
+use pack_read::read::Refused;
 
-fn fitted_or(answer: Reading, found: Chain, c: Chain) -> Chain
-    ensures { result ≡ fitted_or answer found c }
+// A refusal's number, and its place in the high half.
+pub(crate) fn refusal_code(refused: Refused) -> u64
+    ensures { result ≡ refusal_code refused }
 {
-    match answer {
-        Reading::Whole => found,
-        Reading::Refused(_, _) => c,
-    }
-}
-
-// A refusal's number, and its place in the high half; of a file that is taken, n in the second byte.
-pub(crate) fn read_code(answer: Reading, n: u8) -> u64
-    ensures { result ≡ read_code answer n }
-{
-    match answer {
-        Reading::Whole => n as u64 * Coded::SECOND_BYTE,
-        Reading::Refused(why, place) => pack_read::number(why) as u64
-            + place.0 as u64 * Coded::HIGH_HALF,
-    }
+    u8::from(refused.why) as u64 + refused.place.0 as u64 * HIGH_HALF
 }
 
 #[tactic(auto, unfolding(crate::specs::Fit::lent_fit))]
-pub fn fit(c: Chain, file: &[u8]) -> Coded
+pub fn fit(c: Chain, file: &[u8]) -> Coded<Chain>
     ensures { result ≡ lent_fit c file.now }
 {
     let found = chain_fit::fit(file);
-    let answer = found.answer;
-    let chain = found.chain;
-    Coded {
-        chain: fitted_or(answer, chain, c),
-        code: read_code(answer, 0),
+    match found.answer {
+        Ok(()) => Coded {
+            lent: found.chain,
+            code: 0,
+        },
+        Err(refused) => Coded {
+            lent: c,
+            code: refusal_code(refused),
+        },
     }
 }

@@ -1,24 +1,24 @@
 -- Lines that change: the first that differs, taken to its new level; and how many do.
-use Rattle.std.proofs.Common.{◌≡◌, ℕ, ◌+◌, Bool, true, false, eqb, [], ◌∷◌, length, refl, ap, arith, length-append, eq-eqb, ne_eqb}
+use Rattle.std.proofs.Common.{◌≡◌, ℕ, ◌+◌, Bool, true, false, not, eqb, [], ◌∷◌, length, refl, ap, arith, length-append, eq-eqb, ne_eqb}
 use Rattle.std.specs.Prelude.{if◌then◌else◌}
+use Rattle.std.specs.Int.{from_bool}
 use Rattle.lines.specs.declared.Lines.{Lines}
 use Rattle.lines.specs.Lines.{with_select, with_heads, with_readgate, with_writegate, with_command, with_request}
 use Rattle.event.specs.Numbers.{Numbers}
 use Rattle.capture_events.specs.Events.{event_of, change_of, changes_of}
-use Rattle.capture_events.specs.Count.{differs}
 
-by_test : (t : Bool) (e : Numbers) → length (if t then [] else (e ∷ [])) ≡ (if t then 0 else 1)
+by_test : (t : Bool) (e : Numbers) → length (if t then [] else (e ∷ [])) ≡ from_bool (not t)
 by_test true e = refl
 by_test false e = refl
 
-one_line : (kind old new : ℕ) → length (change_of kind old new) ≡ differs old new
+one_line : (kind old new : ℕ) → length (change_of kind old new) ≡ from_bool (not (eqb old new))
 unfolding change_of
 one_line kind old new = by_test (eqb old new) (event_of kind new)
 
 pub changes_many : (old new : Lines)
     → length (changes_of old new)
-    ≡ differs old.select new.select + differs old.heads.0 new.heads.0 + differs old.readgate new.readgate
-    + differs old.writegate new.writegate + differs old.command new.command + differs old.request new.request
+    ≡ from_bool (not (eqb old.select new.select)) + from_bool (not (eqb old.heads.0 new.heads.0)) + from_bool (not (eqb old.readgate new.readgate))
+    + from_bool (not (eqb old.writegate new.writegate)) + from_bool (not (eqb old.command new.command)) + from_bool (not (eqb old.request new.request))
 unfolding changes_of
 changes_many old new =
     simp (length-append, one_line) (omega arith)

@@ -1,5 +1,5 @@
 -- From one sample to the next: with no time between them, a span passed, the rest passed.
-use Rattle.std.proofs.Common.{◌≡◌, ℕ, zero, suc, ◌+◌, ◌-◌, ◌/◌, ◌%◌, ◌^◌, ◌<◌, ◌≤◌, List, [], ◌∷◌, ◌++◌, length, drop, sym, refl, ap, ◌∙◌, append_assoc, arith}
+use Rattle.std.proofs.Common.{◌≡◌, ℕ, zero, suc, ◌+◌, ◌-◌, ◌/◌, ◌<◌, ◌≤◌, min, Option, Some, None, List, [], ◌∷◌, ◌++◌, length, drop, sym, refl, ap, ◌∙◌, append_assoc}
 use Rattle.lines.specs.declared.Lines.{Lines}
 use Rattle.event.specs.Numbers.{Numbers}
 use Rattle.capture_samples.specs.declared.Sample.{Sample}
@@ -7,9 +7,8 @@ use Rattle.capture_samples.specs.Samples.{sample_length, sample_of, samples_in, 
 use Rattle.capture_samples.proofs.Sampling.{next_sample, samples_end}
 use Rattle.capture_events.specs.Events.{event_of, gap_of, longest, passing, passing_of, changes_of, events_to, events_behind, events_of, capture_events}
 use Rattle.capture_events.specs.declared.Ahead.{Ahead}
-use Rattle.capture_events.specs.declared.Ahead.TheVariants.{Event, Reached}
 use Rattle.capture_events.specs.Coming.{reached_by, first_from, next_of, Coming, start_of, last_of, to_come}
-use Rattle.capture_events.proofs.Passing.{gap_back, no_gap, gap_less, nothing_passes, span_passes, rest_passes}
+use Rattle.capture_events.proofs.Passing.{no_gap, gap_less, nothing_passes, some_passes}
 
 module _ (earlier later : Sample) where
   -- no time between them
@@ -19,60 +18,48 @@ module _ (earlier later : Sample) where
       ap (λ (gap : ℕ). passing_of gap ++ changes_of earlier.lines later.lines) (ap (λ (s : ℕ). gap_of later.stamp s) e ∙ no_gap later.stamp)
       ∙ ap (λ (l : List Numbers). l ++ changes_of earlier.lines later.lines) nothing_passes
 
-  -- a whole span of it
-  pub span_of : longest ≤ gap_of later.stamp earlier.stamp
-      → events_to earlier later ≡ passing longest ∷ events_to (record { stamp = (earlier.stamp + longest) % 2 ^ 32; lines = earlier.lines }) later
+  -- what is left of it, or as much as one event lets pass
+  pub time_passes : 0 < gap_of later.stamp earlier.stamp
+      → events_to earlier later ≡ passing (min (gap_of later.stamp earlier.stamp) longest)
+      ∷ events_to (reached_by (passing (min (gap_of later.stamp earlier.stamp) longest)) earlier) later
   unfolding events_to
-  span_of h =
-      ap (λ (l : List Numbers). l ++ changes_of earlier.lines later.lines) (span_passes (gap_of later.stamp earlier.stamp) h)
-      ∙ ap (λ (gap : ℕ). passing longest ∷ passing_of gap ++ changes_of earlier.lines later.lines) (sym (gap_less later.stamp earlier.stamp h))
-
-  -- the rest of it
-  pub rest_of : 0 < gap_of later.stamp earlier.stamp → gap_of later.stamp earlier.stamp < longest
-      → events_to earlier later ≡ passing (gap_of later.stamp earlier.stamp) ∷ events_to (record { stamp = later.stamp; lines = earlier.lines }) later
-  unfolding events_to
-  rest_of h k =
+  time_passes h =
       let gap = gap_of later.stamp earlier.stamp in
-      ap (λ (l : List Numbers). l ++ changes_of earlier.lines later.lines) (rest_passes gap h k)
-      ∙ ap (λ (l : List Numbers). passing gap ∷ l ++ changes_of earlier.lines later.lines) (sym (ap passing_of (no_gap later.stamp) ∙ nothing_passes))
+      let changes = changes_of earlier.lines later.lines in
+      ap (λ (l : List Numbers). l ++ changes) (some_passes gap h)
+      ∙ ap (λ (n : ℕ). passing (min gap longest) ∷ passing_of n ++ changes) (sym (gap_less later.stamp earlier.stamp))
 
--- a line at a time, where no time is left
-module _ (at to : Sample) (e : at.stamp ≡ to.stamp) where
-  pub line_changes : {n : Numbers} (lines : Lines) → changes_of at.lines to.lines ≡ n ∷ changes_of lines to.lines
-      → events_to at to ≡ n ∷ events_to (record { stamp = at.stamp; lines = lines }) to
-  line_changes {n} lines h = no_time_lem at to e ∙ h ∙ ap (λ (l : List Numbers). n ∷ l) (sym (no_time_lem (record { stamp = at.stamp; lines = lines }) to e))
-
-  pub reached : changes_of at.lines to.lines ≡ [] → events_to at to ≡ []
-  reached h = no_time_lem at to e ∙ h
+abbrev ahead : ℕ → ℕ → Sample → Ahead
+ahead kind a further = record { kind = kind; a = a; reached = further }
 
 -- said of what is next
 module _ (at to : Sample) where
-  pub event_next : (kind a : ℕ) (further : Sample) → further ≡ reached_by (event_of kind a) at → events_to at to ≡ event_of kind a ∷ events_to further to
-      → Coming at to (Event kind a further)
+  pub event_next : {e : Ahead} (kind a : ℕ) (further : Sample) → e ≡ ahead kind a further → further ≡ reached_by (event_of kind a) at
+      → events_to at to ≡ event_of kind a ∷ events_to further to → Coming at to (Some e)
   unfolding next_of
-  event_next kind a further e k = record {
-    is = ap (λ (s : Sample). Event kind a s) e ∙ sym (ap (λ (l : List Numbers). first_from l at) k);
+  event_next kind a further q r k = rw q (record {
+    is = ap (λ (s : Sample). Some (ahead kind a s)) r ∙ sym (ap (λ (l : List Numbers). first_from l at) k);
     comes = k;
-  }
+  })
 
-  -- the rest of the time reaches the later stamp
-  pub rest_reaches : to.stamp < 2 ^ 32 → record { stamp = to.stamp; lines = at.lines } ≡ reached_by (passing (gap_of to.stamp at.stamp)) at
-  rest_reaches h =
-      let e : to.stamp ≡ (at.stamp + gap_of to.stamp at.stamp) % 2 ^ 32 = omega (arith, gap_back to.stamp at.stamp) in
-      λ i. record { stamp = e i; lines = at.lines }
+  -- where no time is left, a line
+  module _ (t : at.stamp ≡ to.stamp) where
+    pub line_next : {e : Ahead} (kind a : ℕ) (lines : Lines) → e ≡ ahead kind a (record { stamp = at.stamp; lines = lines })
+        → record { stamp = at.stamp; lines = lines } ≡ reached_by (event_of kind a) at
+        → changes_of at.lines to.lines ≡ event_of kind a ∷ changes_of lines to.lines → Coming at to (Some e)
+    line_next kind a lines q r h =
+        event_next kind a _ q r (no_time_lem at to t ∙ h ∙ ap (λ (l : List Numbers). event_of kind a ∷ l) (sym (no_time_lem (record { stamp = at.stamp; lines = lines }) to t)))
 
-  pub none_next : events_to at to ≡ [] → Coming at to Reached
-  unfolding next_of
-  none_next k = record { is = sym (ap (λ (l : List Numbers). first_from l at) k); comes = k }
+    pub none_next : changes_of at.lines to.lines ≡ [] → Coming at to None
+    unfolding next_of
+    none_next h =
+        let k = no_time_lem at to t ∙ h in
+        record { is = sym (ap (λ (l : List Numbers). first_from l at) k); comes = k }
 
 -- what the next tells, where it is an event, is what the event reaches
-abbrev reach_of : Sample → Ahead → Sample
-reach_of at (Event kind a further) = further
-reach_of at Reached = at
-
-pub told_reached : {at to : Sample} {kind a : ℕ} {further : Sample} → Coming at to (Event kind a further) → further ≡ reached_by (event_of kind a) at
+pub told_reached : {at to : Sample} {e : Ahead} → Coming at to (Some e) → e.reached ≡ reached_by (event_of e.kind e.a) at
 unfolding next_of
-told_reached {at} c = ap (reach_of at) (c.is ∙ ap (λ (l : List Numbers). first_from l at) c.comes)
+told_reached {at} {to} {e} c = ap (λ (o : Option Ahead). elim o as (λ _. Sample) [ Some x ↦ x.reached | None ↦ at ]) (c.is ∙ ap (λ (l : List Numbers). first_from l at) c.comes)
 
 -- the first sample takes no time
 first_from_lem : (n : ℕ) (start : Lines) (bytes : List ℕ) → events_of start (samples_in n bytes) ≡ events_behind (start_of start bytes) (samples_in n bytes)

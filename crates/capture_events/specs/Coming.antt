@@ -1,5 +1,5 @@
 -- The events that are still to come, once the next is known.
-use Rattle.std.specs.Prelude.{◌≡◌, ℕ, ◌+◌, ◌%◌, ◌^◌, List, [], ◌∷◌, drop, ◌==◌}
+use Rattle.std.specs.Prelude.{◌≡◌, ℕ, ◌+◌, ◌%◌, ◌^◌, List, [], ◌∷◌, drop, ◌==◌, Option, Some, None}
 use Rattle.std.specs.Prelude.{if◌then◌else◌}
 use Rattle.lines.specs.declared.Lines.{Lines}
 use Rattle.lines.specs.Lines.{with_select, with_heads, with_writegate, with_readgate, with_command, with_request}
@@ -7,7 +7,6 @@ use Rattle.event.specs.Numbers.{Numbers}
 use Rattle.capture_samples.specs.declared.Sample.{Sample}
 use Rattle.capture_samples.specs.Samples.{sample_of, samples_of}
 use Rattle.capture_events.specs.declared.Ahead.{Ahead}
-use Rattle.capture_events.specs.declared.Ahead.TheVariants.{Event, Reached}
 use Rattle.capture_events.specs.Events.{event_of, events_to, events_behind}
 
 abbrev with_lines : Lines → Sample → Sample
@@ -25,20 +24,20 @@ reached_by n at =
     else record { stamp = (at.stamp + n.a) % 2 ^ 32; lines = at.lines })))))
 
 -- the first of the events, and what it reaches
-abbrev pub first_from : List Numbers → Sample → Ahead
-first_from [] at = Reached
-first_from (n ∷ rest) at = Event n.kind n.a (reached_by n at)
+abbrev pub first_from : List Numbers → Sample → Option Ahead
+first_from [] at = None
+first_from (n ∷ rest) at = Some (record { kind = n.kind; a = n.a; reached = reached_by n at })
 
-unfoldable pub next_of : Sample → Sample → Ahead
+unfoldable pub next_of : Sample → Sample → Option Ahead
 next_of at to = first_from (events_to at to) at
 
 -- the next event, and then those from what it reaches; none where the sample is reached
-abbrev pub events_next : Ahead → Sample → List Numbers
-events_next (Event kind a at) to = event_of kind a ∷ events_to at to
-events_next Reached to = []
+abbrev pub events_next : Option Ahead → Sample → List Numbers
+events_next (Some e) to = event_of e.kind e.a ∷ events_to e.reached to
+events_next None to = []
 
 -- the next event by its definition; that it and those behind it are all follows, for the caller's loop
-pub record Coming (at to : Sample) (r : Ahead) : Type 0 where
+pub record Coming (at to : Sample) (r : Option Ahead) : Type 0 where
   pub is : r ≡ next_of at to
   pub comes : events_to at to ≡ events_next r to
 

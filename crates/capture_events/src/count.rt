@@ -1,7 +1,7 @@
 // How many events a capture has, without running through them.
 ghost use Rattle.std.specs.Prelude.{◌≡◌, ◌≤◌, length};
 ghost use Rattle.capture_events.specs.Events.{passing_of, changes_of, events_to, capture_events};
-ghost use Rattle.capture_events.specs.Count.{differs, up_to};
+ghost use Rattle.capture_events.specs.Count.{up_to};
 
 use crate::SPAN;
 use capture_samples::{LENGTH, Sample, sample_of};
@@ -11,31 +11,19 @@ use lines::Lines;
 fn spans(gap: u32) -> u32
     ensures { result ≡ length (passing_of gap) }
 {
-    if gap % SPAN == 0 {
-        return gap / SPAN;
-    }
-    gap / SPAN + 1
-}
-
-fn changed(old: u16, new: u16) -> u32
-    ensures { (result ≡ differs old new) × (result ≤ 1) }
-{
-    if old == new {
-        return 0;
-    }
-    1
+    gap.div_ceil(SPAN)
 }
 
 #[tactic(auto, using(crate::proofs::Changing::changes_many))]
 fn changes(old: Lines, new: Lines) -> u32
     ensures { result ≡ length (changes_of old new) }
 {
-    changed(old.select as u16, new.select as u16)
-        + changed(old.heads.0 as u16, new.heads.0 as u16)
-        + changed(old.readgate, new.readgate)
-        + changed(old.writegate, new.writegate)
-        + changed(old.command as u16, new.command as u16)
-        + changed(old.request as u16, new.request as u16)
+    u32::from(old.select != new.select)
+        + u32::from(old.heads != new.heads)
+        + u32::from(old.readgate != new.readgate)
+        + u32::from(old.writegate != new.writegate)
+        + u32::from(old.command != new.command)
+        + u32::from(old.request != new.request)
 }
 
 // From one sample to the next.
@@ -52,18 +40,17 @@ fn between(at: Sample, to: Sample) -> u64
 pub fn up_to(most: u64, lines: Lines, capture: &[u8]) -> u64
     ensures { result ≡ up_to most (length (capture_events lines capture.now)) }
 {
+    let (samples, _) = capture.as_chunks::<LENGTH>();
     let mut at = crate::start(lines, capture);
-    let mut used = 0;
     let mut n = 0;
-    while capture.len() - used >= LENGTH {
-        let to = sample_of(&capture[used..]);
+    for part in samples {
+        let to = sample_of(part);
         let more = between(at, to);
         if more > most - n {
             return most;
         }
         n += more;
         at = to;
-        used += LENGTH;
     }
     n
 }

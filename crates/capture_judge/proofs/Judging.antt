@@ -1,4 +1,4 @@
--- What becomes of a capture, case by case.
+-- Where a capture is run there is room for each answer; no buffer is as long as 64 bits can say
 use mathlib.Core.Path.{◌≡◌, ap}
 use mathlib.Core.List.{List}
 use mathlib.Core.Bool.{true}
@@ -6,37 +6,22 @@ use Prim.Native.Nat.{ℕ, ◌*◌, ◌/◌, ◌^◌, ◌≤◌, ◌<◌}
 use native.Mathlib.Omega.{arith}
 use lib.Dec.{leb}
 use lib.ListN.{length}
-use borrow.Author.Tests.{eq-eqb, ne_eqb, le-leb, lt-leb, leb-true}
+use borrow.Author.Tests.{leb-true}
+use Rattle.std.specs.Prelude.{Result, Ok}
 use Rattle.counts.proofs.Choice.{by_test}
 use Rattle.lines.specs.declared.Lines.{Lines}
-use Rattle.capture_samples.specs.Samples.{capture_b, good_bytes}
+use Rattle.capture_samples.specs.Samples.{capture_b}
 use Rattle.capture_events.specs.Events.{capture_events}
 use Rattle.capture_events.specs.Count.{up_to}
-use Rattle.capture_judge.specs.declared.Taking.{Taking}
-use Rattle.capture_judge.specs.declared.Taking.TheVariants.{Runs, NotCapture, NoRoom}
+use Rattle.capture_judge.specs.declared.Untaken.{Untaken}
 use Rattle.capture_judge.specs.Taking.{event_count, taking_of, taking_number}
 
-module _ (start : Lines) (capture : List ℕ) (room : ℕ) where
-  pub not_capture : (good_bytes capture ≡ length capture → ⊥) → NotCapture (good_bytes capture) ≡ taking_of start capture room
-  unfolding taking_of
-  not_capture d = rw (ne_eqb (good_bytes capture) (length capture) d)
-
-  module _ (good : good_bytes capture ≡ length capture) where
-    pub no_room : room / 2 < event_count start capture → NoRoom (event_count start capture) ≡ taking_of start capture room
-    unfolding taking_of
-    no_room h = rw (eq-eqb (good_bytes capture) (length capture) good, lt-leb (event_count start capture) (room / 2) h)
-
-    pub is_run : event_count start capture ≤ room / 2 → Runs (event_count start capture) ≡ taking_of start capture room
-    unfolding taking_of
-    is_run h = rw (eq-eqb (good_bytes capture) (length capture) good, le-leb (event_count start capture) (room / 2) h)
-
--- where it is run there is room for each answer; no buffer is as long as 64 bits can say
 up_to_all : (most n room : ℕ) → up_to most n ≤ room → room < most → n ≤ room
 up_to_all most n room h k = by_test (λ (x : ℕ). x ≤ room → n ≤ room) (leb n most) n most (λ t. λ m. m) (λ t. λ m. absurd (omega arith)) h
 
 module _ (start : Lines) (capture : List ℕ) (room n : ℕ) (small : room < 2 ^ 64) where
-  abbrev Fits : Taking → Type 0
-  Fits t = t ≡ Runs n → 2 * length (capture_events start capture) ≤ room
+  abbrev Fits : Result ℕ Untaken → Type 0
+  Fits t = t ≡ Ok n → 2 * length (capture_events start capture) ≤ room
 
   fits : leb (event_count start capture) (room / 2) ≡ true → 2 * length (capture_events start capture) ≤ room
   fits u = omega (arith, up_to_all 18_446_744_073_709_551_615 (length (capture_events start capture)) (room / 2) (leb-true (event_count start capture) (room / 2) u) (omega arith))

@@ -53,10 +53,6 @@ module _ {c₀ : Chain} {file₀ capture answers₀ : List ℕ} {chain : Chain} 
       pub room_for : said + 2 ≤ length answers
       room_for = omega (arith, r.room, ap length next)
 
-      -- one event fewer is to come
-      pub event_fewer : length (to_come reached capture used) + (length capture - used) < length (to_come at capture used) + (length capture - used)
-      event_fewer = omega (arith, ap length next)
-
       -- an event more
       pub feeds : (chain' : Chain) (file' answers' : List ℕ) → length file' ≡ length file → Fed chain file answers said kind a chain' file' answers'
           → Runs c₀ file₀ capture answers₀ chain' file' answers' reached used (said + 2)
@@ -81,14 +77,10 @@ module _ {c₀ : Chain} {file₀ capture answers₀ : List ℕ} {chain : Chain} 
             room = omega (arith, r.room, ap length next, ap length f.says, put_long answers said said-is);
           }
 
-    -- one sample fewer is to come
-    pub sample_fewer : events_to at to ≡ [] → length (to_come to capture (used + sample_length)) + (length capture - (used + sample_length)) < length (to_come at capture used) + (length capture - used)
-    sample_fewer k = omega (arith, ap length (sample_comes to capture used h e at k))
-
     -- a sample more
-    pub passes : events_to at to ≡ [] → Runs c₀ file₀ capture answers₀ chain file answers to (used + sample_length) said
-    passes k =
-        let n = sample_comes to capture used h e at k in
+    pub passes : (further : ℕ) → further ≡ used + sample_length → events_to at to ≡ [] → Runs c₀ file₀ capture answers₀ chain file answers to further said
+    passes further q k =
+        let n = sample_comes to capture used h e at k ∙ ap (λ (u : ℕ). to_come to capture u) (sym q) in
         record {
           within = omega arith;
           goes = sym (ap (λ (l : List Numbers). lent_through l (lent chain file)) n) ∙ r.goes;

@@ -1,12 +1,12 @@
 -- A capture run. Request 2: "The result is the chain, the pack file and each answer, equal to feeding the same events singly."
-use Rattle.std.specs.Prelude.{ℕ, ◌+◌, ◌≡◌, List, [], ◌∷◌, ◌++◌, length, drop, set}
+use Rattle.std.specs.Prelude.{ℕ, ◌+◌, ◌≡◌, List, [], ◌∷◌, ◌++◌, length, drop, set, Result, Ok, Err}
 use Rattle.event.specs.declared.Answer.{Answer}
 use Rattle.event.specs.Answer.{answer_number, answer_value}
 use Rattle.chain_record.specs.declared.Chain.{Chain}
 use Rattle.chain_step.specs.Run.{Lent, lent, step_by, lent_after, Ran, run}
 use Rattle.capture_events.specs.Events.{event_of, capture_events}
-use Rattle.capture_judge.specs.declared.Taking.{Taking}
-use Rattle.capture_judge.specs.declared.Taking.TheVariants.{Runs, NotCapture, NoRoom}
+use Rattle.capture_judge.specs.declared.Untaken.{Untaken}
+use Rattle.capture_judge.specs.declared.Untaken.TheVariants.{NotCapture, NoRoom}
 use Rattle.capture_run.specs.declared.Captured.{Captured}
 use Rattle.capture_judge.specs.Taking.{taking_of}
 
@@ -37,10 +37,10 @@ pub record RunThrough (c : Chain) (file capture answers : List ℕ) (r : Chain) 
   pub says : answers' ≡ answers_in (ran_of c file capture).answers answers
 
 -- "chain and file as before" where it is refused, and the answers too
-abbrev pub ran_or : {A : Type 0} → Taking → A → A → A
-ran_or (Runs n) ran before = ran
-ran_or (NotCapture place) ran before = before
-ran_or (NoRoom n) ran before = before
+abbrev pub ran_or : {A : Type 0} → Result ℕ Untaken → A → A → A
+ran_or (Ok n) ran before = ran
+ran_or (Err (NotCapture place)) ran before = before
+ran_or (Err (NoRoom n)) ran before = before
 
 -- what is left of record and file, with so much room for the answers
 abbrev pub captured_lent : Chain → List ℕ → List ℕ → ℕ → Lent

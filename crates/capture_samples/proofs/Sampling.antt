@@ -1,12 +1,14 @@
 -- Samples one after the other: the first and those behind it, the end, and a capture put together of two.
-use mathlib.Core.Path.{◌≡◌, sym, ap, ◌∙◌}
+use mathlib.Core.Path.{◌≡◌, refl, sym, ap, ◌∙◌}
 use mathlib.Core.Bool.{Bool, true, false}
 use mathlib.Core.List.{List, [], ◌∷◌, ◌++◌}
 use Prim.Native.Nat.{ℕ, zero, suc, ◌+◌, ◌-◌, ◌*◌, ◌/◌, ◌≤◌, ◌<◌}
 use native.Mathlib.Omega.{arith}
-use lib.ListN.{length, get_or, drop, length-drop, length-append, get_or-append}
-use lib.Seq.{drop-drop, drop-append-le}
+use lib.ListN.{length, get_or, take, drop, length-drop, length-append, get_or-append, take-append-drop}
+use lib.Seq.{drop-drop, drop-append-le, length-take-le}
 use Rattle.std.specs.Prelude.{if◌then◌else◌}
+use Rattle.std.specs.Simd.{first_chunks}
+use Rattle.std.specs.List.{prefix_len}
 use Rattle.counts.proofs.Choice.{by_test}
 use Rattle.capture_samples.specs.declared.Sample.{Sample}
 use Rattle.capture_samples.specs.Samples.{sample_length, sample_of, levels_b, samples_in, samples_of, good_in, good_bytes}
@@ -31,10 +33,6 @@ module _ (l : List ℕ) where
   unfolding samples_of
   no_sample h = ap (λ (n : ℕ). samples_in n l) (none_left h)
 
-  pub none_good : length l < sample_length → good_bytes l ≡ 0
-  unfolding good_bytes
-  none_good h = ap (λ (n : ℕ). good_in n l) (none_left h)
-
 -- a loop over a capture: so many bytes are used
 module _ (l : List ℕ) (at : ℕ) (h : sample_length ≤ length l - at) where
   left : sample_length ≤ length (drop at l)
@@ -43,22 +41,8 @@ module _ (l : List ℕ) (at : ℕ) (h : sample_length ≤ length l - at) where
   pub next_sample : samples_of (drop at l) ≡ sample_of (drop at l) ∷ samples_of (drop (at + sample_length) l)
   next_sample = first_sample (drop at l) left ∙ ap (λ (m : List ℕ). sample_of (drop at l) ∷ samples_of m) (drop-drop sample_length at l)
 
-  next_good : good_bytes (drop at l) ≡ (if levels_b (drop at l) then sample_length + good_bytes (drop (at + sample_length) l) else 0)
-  next_good = first_good (drop at l) left ∙ ap (λ (m : List ℕ). if levels_b (drop at l) then sample_length + good_bytes m else 0) (drop-drop sample_length at l)
-
-  -- one good sample more
-  pub good_on : good_bytes l ≡ at + good_bytes (drop at l) → levels_b (drop at l) ≡ true → good_bytes l ≡ (at + sample_length) + good_bytes (drop (at + sample_length) l)
-  good_on e t = let n = next_good ∙ ap (λ (b : Bool). if b then sample_length + good_bytes (drop (at + sample_length) l) else 0) t in omega (arith, e, n)
-
-  -- the first bad one
-  pub good_ends : good_bytes l ≡ at + good_bytes (drop at l) → levels_b (drop at l) ≡ false → at ≡ good_bytes l
-  good_ends e t = let n = next_good ∙ ap (λ (b : Bool). if b then sample_length + good_bytes (drop (at + sample_length) l) else 0) t in omega (arith, e, n)
-
 -- too few bytes left for one more
 module _ (l : List ℕ) (at : ℕ) (h : length l - at < sample_length) where
-  pub good_stops : good_bytes l ≡ at + good_bytes (drop at l) → at ≡ good_bytes l
-  good_stops e = sym (e ∙ ap (λ (n : ℕ). at + n) (none_good (drop at l) (rw (length-drop at l) h)) ∙ omega arith)
-
   pub samples_end : samples_of (drop at l) ≡ []
   samples_end = no_sample (drop at l) (rw (length-drop at l) h)
 
@@ -118,3 +102,49 @@ bad_front (suc n) xs ys h g =
     ∙ omega (arith, bad_front n (drop sample_length xs) ys (omega (arith, d)) (omega (arith, d, e, g)), e))
     (λ t. λ e. front_good xs ys k ∙ ap (λ (b : Bool). if b then sample_length + good_bytes (drop sample_length xs ++ ys) else 0) t ∙ sym e)
     (first_good xs k)
+
+-- a capture's pieces of six bytes, one for each sample
+abbrev pub pieces_of : List ℕ → List (List ℕ)
+pieces_of l = first_chunks sample_length (length l / sample_length) l
+
+-- so many pieces are behind a loop
+piece_at : (n : ℕ) (l : List ℕ) (i : ℕ) (d : List ℕ) → i < n → get_or (first_chunks sample_length n l) i d ≡ take sample_length (drop (i * sample_length) l)
+piece_at zero l i d h = absurd (omega arith)
+piece_at (suc n) l zero d h = refl
+piece_at (suc n) l (suc i) d h =
+    piece_at n (drop sample_length l) i d (omega arith)
+    ∙ ap (λ (m : List ℕ). take sample_length m) (drop-drop (i * sample_length) sample_length l ∙ ap (λ (k : ℕ). drop k l) (omega arith))
+
+module _ (l : List ℕ) {pieces : List (List ℕ)} (e : pieces ≡ pieces_of l) (k : length pieces ≡ length l / sample_length) (i : ℕ) where
+  pub piece_within : i < length pieces → sample_length ≤ length l - i * sample_length
+  piece_within h = omega arith
+
+  pub piece_sample : (d : List ℕ) → i < length pieces → sample_of (get_or pieces i d) ≡ sample_of (drop (i * sample_length) l)
+  piece_sample d h =
+      let from = drop (i * sample_length) l in
+      let long = length-take-le sample_length from (rw (length-drop (i * sample_length) l) (piece_within h)) in
+      ap (λ (p : List (List ℕ)). sample_of (get_or p i d)) e ∙ ap (λ (p : List ℕ). sample_of p) (piece_at (length l / sample_length) l i d (omega arith))
+      ∙ sym (front_sample (take sample_length from) (drop sample_length from) (omega (arith, long))) ∙ ap (λ (p : List ℕ). sample_of p) (take-append-drop sample_length from)
+
+  pub pieces_end : length pieces ≤ i → length l - i * sample_length < sample_length
+  pieces_end h = omega arith
+
+-- the good ones in front
+piece_levels : (l : List ℕ) → sample_length ≤ length l → levels_b (take sample_length l) ≡ levels_b l
+piece_levels l h =
+    sym (front_levels (take sample_length l) (drop sample_length l) (omega (arith, length-take-le sample_length l h))) ∙ ap levels_b (take-append-drop sample_length l)
+
+one_piece : (t : Bool) (n m : ℕ) → n * sample_length ≡ m → (if t then 1 + n else 0) * sample_length ≡ (if t then sample_length + m else 0)
+one_piece true n m e = omega arith
+one_piece false n m e = refl
+
+pieces_good : (n : ℕ) (l : List ℕ) → n * sample_length ≤ length l → prefix_len levels_b (first_chunks sample_length n l) * sample_length ≡ good_in n l
+pieces_good zero l h = refl
+pieces_good (suc n) l h =
+    let further = prefix_len levels_b (first_chunks sample_length n (drop sample_length l)) in
+    ap (λ (t : Bool). (if t then 1 + further else 0) * sample_length) (piece_levels l (omega arith))
+    ∙ one_piece (levels_b l) further _ (pieces_good n (drop sample_length l) (omega (arith, length-drop sample_length l)))
+
+pub good_pieces : (l : List ℕ) → prefix_len levels_b (pieces_of l) * sample_length ≡ good_bytes l
+unfolding good_bytes
+good_pieces l = pieces_good (length l / sample_length) l (omega arith)

@@ -34,6 +34,7 @@ fn lines_of(levels: u16) -> Lines
 }
 
 // The sample at the start of the lent part.
+// Stays: no plainer. sample_of promises its answer for a part of any length (docs/STATEMENTS.md), and From<[u8; 6]> would ask for six bytes.
 pub fn sample_of(part: &[u8]) -> Sample
     ensures { result ≡ sample_of part.now }
 {
@@ -55,12 +56,6 @@ fn good(part: &[u8]) -> bool
 pub fn good_bytes(capture: &[u8]) -> usize
     ensures { result ≡ good_bytes capture.now }
 {
-    let mut at = 0;
-    while capture.len() - at >= LENGTH {
-        if !good(&capture[at..]) {
-            return at;
-        }
-        at += LENGTH;
-    }
-    at
+    let (samples, _) = capture.as_chunks::<LENGTH>();
+    samples.iter().take_while(|part| good(*part)).count() * LENGTH
 }

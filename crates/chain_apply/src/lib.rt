@@ -7,24 +7,22 @@ ghost use Rattle.chain_apply.specs.Apply.{put_of, pass_slot, with_states, applie
 
 use chain_decision::{Change, Decision};
 use chain_record::Chain;
-use counts::{LAST_SLOT, Micros, SLOTS};
+use counts::{LAST_SLOT, Micros};
 use drive_record::State;
 use drive_rules::time;
 use pack_read::Pack;
+use std::array;
 
 // The record with the state of a slot put in place of what it was.
+// Stays: no plainer: c goes from put to put and slot and s come out of a Change, so a struct would be made for each call.
 #[tactic(auto, unfolding(crate::specs::Apply::put_of))]
 fn put(c: Chain, slot: u8, s: State) -> Chain
     ensures { result ≡ with_states c (put_of c.states slot s) }
 {
     let mut e = c;
-    if slot < 1 {
-        return e;
+    if (slot >= 1) & (slot <= LAST_SLOT) {
+        e.states[(slot - 1) as usize] = s;
     }
-    if slot > LAST_SLOT {
-        return e;
-    }
-    e.states[(slot - 1) as usize] = s;
     e
 }
 
@@ -36,22 +34,17 @@ fn pass_slot(p: Pack, s: State, us: Micros) -> State
     if !pack_read::fitted(p) {
         return s;
     }
-    let r = time::pass(s, us);
-    r.state
+    time::pass(s, us).state
 }
 
 // Time passes on every drive.
 fn passed(c: Chain, us: Micros) -> Chain
     ensures { result ≡ with_states c (map_with (pass_slot us) c.packs c.states) }
 {
-    let mut e = c;
-    for i in 0..SLOTS {
-        let p = e.packs[i];
-        let s = e.states[i];
-        let t = pass_slot(p, s, us);
-        e.states[i] = t;
+    Chain {
+        states: array::from_fn(|i| pass_slot(c.packs[i], c.states[i], us)),
+        ..c
     }
-    e
 }
 
 // The record after a decision. A state is put by its place, since the record is large.
@@ -59,11 +52,11 @@ fn passed(c: Chain, us: Micros) -> Chain
 pub fn apply(c: Chain, d: Decision) -> Chain
     ensures { result ≡ applied c d }
 {
-    let mut e = c;
-    let lines = d.lines;
-    e.lines = lines;
-    let change = d.change;
-    match change {
+    let e = Chain {
+        lines: d.lines,
+        ..c
+    };
+    match d.change {
         Change::Nothing => e,
         Change::One(slot, s) => put(e, slot, s),
         Change::Two(slot, s, other, t) => put(put(e, slot, s), other, t),

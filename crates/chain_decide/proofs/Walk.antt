@@ -1,4 +1,5 @@
 -- One walk through all that an event can decide: what holds of each leaf, knowing the tests on the way, holds of the decision.
+use Rattle.std.specs.Prelude.{None}
 use mathlib.Core.Path.{◌≡◌, refl, sym, ap}
 use mathlib.Core.Bool.{Bool, true, false, not}
 use Prim.Native.Nat.{ℕ, ◌<◌}
@@ -19,7 +20,6 @@ use Rattle.lines.specs.declared.Lines.{Lines}
 use Rattle.chain_record.specs.declared.Chain.{Chain}
 use Rattle.chain_decision.specs.declared.Change.TheVariants as change
 use Rattle.chain_decision.specs.declared.Deed.TheVariants.{Say, Read, Write}
-use Rattle.chain_decision.specs.declared.Sent.TheVariants.{Nothing}
 use Rattle.chain_decision.specs.declared.Decision.{Decision}
 use Rattle.chain_record.specs.declared.Seen.{Seen}
 use Rattle.chain_record.specs.Record.{slot_pack, slot_state, look_of}
@@ -69,7 +69,7 @@ module _ (c : Chain) (P : Event → Decision → Type 0) where
         → P e (ruled_of (lines_after e l) (word_met d e) (rule_of d l e))
     -- select
     pub enters : (slot : ℕ) → d.selected ≡ false → fitted_b (slot_pack c.packs slot) ≡ true → moves_b (Select slot) l ≡ true
-        → P (Select slot) (ruled_of (with_select slot l) Nothing (entered_of c slot))
+        → P (Select slot) (ruled_of (with_select slot l) None (entered_of c slot))
     pub leaves : (slot : ℕ) → d.selected ≡ true → fitted_b (slot_pack c.packs slot) ≡ false → moves_b (Select slot) l ≡ true
         → P (Select slot) (left_alone l.select (left_of d.state) (with_select slot l))
     pub swaps : (slot : ℕ) → d.selected ≡ true → fitted_b (slot_pack c.packs slot) ≡ true → moves_b (Select slot) l ≡ true
@@ -91,7 +91,7 @@ module _ (c : Chain) (P : Event → Decision → Type 0) where
         (record {
           lines = l;
           change = change.One slot (state_of (faults.condition_of which (slot_state c.states slot).body) (slot_state c.states slot).transfer);
-          word = Nothing;
+          word = None;
           deed = Say Taken;
         })
 

@@ -1,13 +1,11 @@
 -- The lines that an event sets: which it moves, how they are then, and what the selected drive meets.
-use Rattle.std.specs.Prelude.{Bool, true, false, not, eqb}
+use Rattle.std.specs.Prelude.{ℕ, Bool, true, false, not, eqb, Option, None}
 use Rattle.drive_record.specs.declared.Ruled.{Ruled}
 use Rattle.drive_rules.specs.Heads.{met_of}
 use Rattle.event.specs.declared.Event.{Event}
 use Rattle.event.specs.declared.Event.TheVariants.{Select, Heads, WriteGate, ReadGate, Data, Request, Pass, Cell, Condition}
 use Rattle.lines.specs.declared.Lines.{Lines}
 use Rattle.chain_record.specs.declared.Seen.{Seen}
-use Rattle.chain_decision.specs.declared.Sent.{Sent}
-use Rattle.chain_decision.specs.declared.Sent.TheVariants.{Nothing}
 use Rattle.chain_decision.specs.Decision.{ruled_done}
 use Rattle.chain_lines.specs.Signals.{write_rule, read_rule, word_sent, request_rule}
 use Rattle.lines.specs.Lines.{with_select, with_heads, with_writegate, with_readgate, with_command, with_request}
@@ -49,16 +47,16 @@ rule_of d l (Cell position byte) = ruled_done d.state
 rule_of d l (Condition slot which) = ruled_done d.state
 
 -- the word that it then carries out: request's only
-abbrev pub word_met : Seen → Event → Sent
+abbrev pub word_met : Seen → Event → Option ℕ
 word_met d (Request level) = word_sent d level
-word_met d (Heads h) = Nothing
-word_met d (WriteGate level) = Nothing
-word_met d (ReadGate level) = Nothing
-word_met d (Data level) = Nothing
-word_met d (Select slot) = Nothing
-word_met d (Pass us) = Nothing
-word_met d (Cell position byte) = Nothing
-word_met d (Condition slot which) = Nothing
+word_met d (Heads h) = None
+word_met d (WriteGate level) = None
+word_met d (ReadGate level) = None
+word_met d (Data level) = None
+word_met d (Select slot) = None
+word_met d (Pass us) = None
+word_met d (Cell position byte) = None
+word_met d (Condition slot which) = None
 
 -- "kinds 0 to 5 or 7"
 abbrev pub asked_b : Event → Bool

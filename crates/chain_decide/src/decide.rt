@@ -1,26 +1,36 @@
 // What an event decides on a chain.
 ghost use Rattle.std.specs.Prelude.{◌≡◌};
+ghost use Rattle.chain_record.specs.Record.{slot_pack, slot_state};
 ghost use Rattle.chain_decide.specs.Decide.{select_event, condition_event, decide_of};
 
 use chain_decision::Decision;
 use chain_others::{cell, condition, passing};
 use chain_record::{Chain, Seen, slots};
+use drive_record::State;
 use event::Event;
+use lines::Lines;
+use pack_read::Pack;
+
+// A slot's pack and state.
+fn in_slot(c: Chain, slot: u8) -> (Pack, State)
+    ensures { result ≡ (slot_pack c.packs slot, slot_state c.states slot) }
+{
+    (
+        slots::pack_in(c.packs, slot),
+        slots::state_in(c.states, slot),
+    )
+}
 
 #[tactic(auto, unfolding(crate::specs::Decide::select_event))]
 fn select(c: Chain, d: Seen, slot: u8) -> Decision
     ensures { result ≡ select_event c d slot }
 {
     let l = c.lines;
-    let mut m = c.lines;
-    m.select = slot;
     if l.select == slot {
         return chain_decision::heard(l, d.selected);
     }
-    let packs = c.packs;
-    let states = c.states;
-    let p = slots::pack_in(packs, slot);
-    let s = slots::state_in(states, slot);
+    let m = Lines { select: slot, ..l };
+    let (p, s) = in_slot(c, slot);
     chain_select::moved(d, l, m, p, s)
 }
 
@@ -29,10 +39,7 @@ fn condition(c: Chain, slot: u8, which: u8) -> Decision
     ensures { result ≡ condition_event c slot which }
 {
     let l = c.lines;
-    let packs = c.packs;
-    let states = c.states;
-    let p = slots::pack_in(packs, slot);
-    let s = slots::state_in(states, slot);
+    let (p, s) = in_slot(c, slot);
     condition::condition_at(l, p, s, slot, which)
 }
 

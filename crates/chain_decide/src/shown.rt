@@ -14,6 +14,5 @@ pub fn line_sum(c: Chain) -> u8
     if !d.selected {
         return 0;
     }
-    let s = d.state;
-    shows::sum(s)
+    shows::sum(d.state)
 }

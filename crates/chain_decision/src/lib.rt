@@ -35,23 +35,17 @@ pub enum Deed {
     Write(Spot, u8),
 }
 
-// The word that the selected drive carries out, if it does.
-#[derive(Clone, Copy)]
-pub enum Sent {
-    Nothing,
-    Word(u32),
-}
-
-// What an event does, before anything is done.
+// What an event does, before anything is done. word: the one that the selected drive carries out, if it does.
 #[derive(Clone, Copy)]
 pub struct Decision {
     pub lines: Lines,
     pub change: Change,
-    pub word: Sent,
+    pub word: Option<u32>,
     pub deed: Deed,
 }
 
 // The answer to what a rule did.
+// Stays: no plainer: an impl From would stand in Outcome's crate or Answer's, and that one would have to know the other.
 pub fn answer_of(o: Outcome) -> Answer
     ensures { result ≡ outcome_answer o }
 {
@@ -68,7 +62,7 @@ pub fn say(l: Lines, a: Answer) -> Decision
     Decision {
         lines: l,
         change: Change::Nothing,
-        word: Sent::Nothing,
+        word: None,
         deed: Deed::Say(a),
     }
 }
@@ -85,16 +79,14 @@ pub fn heard(l: Lines, on: bool) -> Decision
 }
 
 // A rule was applied to the selected drive, and a word carried out, if one was.
-pub fn ruled(l: Lines, word: Sent, r: Ruled) -> Decision
+pub fn ruled(l: Lines, word: Option<u32>, r: Ruled) -> Decision
     ensures { result ≡ ruled_of l word r }
 {
-    let state = r.state;
-    let outcome = r.outcome;
     Decision {
         lines: l,
-        change: Change::One(l.select, state),
+        change: Change::One(l.select, r.state),
         word,
-        deed: Deed::Say(answer_of(outcome)),
+        deed: Deed::Say(answer_of(r.outcome)),
     }
 }
 

@@ -1,12 +1,10 @@
 -- The chain of a file that reads, fresh.
 use Rattle.std.specs.Prelude.{ℕ, List, ltb, length, replicate}
-use Rattle.std.specs.Prelude.{if◌then◌else◌}
+use Rattle.std.specs.Prelude.{if◌then◌else◌, Result, Ok, Err}
 use Rattle.counts.specs.Slots.{map_with}
 use Rattle.pack_read.specs.declared.Pack.{Pack}
-use Rattle.pack_read.specs.declared.read.Packs.{Packs}
-use Rattle.pack_read.specs.declared.read.Reading.{Reading}
-use Rattle.pack_read.specs.declared.read.Reading.TheVariants.{Whole, Refused}
-use Rattle.pack_read.specs.Packs.{longest_file}
+use Rattle.pack_read.specs.declared.read.Refused.{Refused}
+use Rattle.pack_read.specs.Packs.{longest_file, no_packs}
 use Rattle.pack_read.specs.Read.{read_all}
 use Rattle.drive_record.specs.declared.State.{State}
 use Rattle.drive_record.specs.State.{fresh_of, blank_state}
@@ -26,18 +24,22 @@ fresh_slot p s = if fitted_b p then fresh_of p.profile else s
 abbrev pub blank_states : List State
 blank_states = replicate 7 blank_state
 
--- a refused file counts as empty; a file that reads whole is never longer than the longest
-unfoldable pub end_of : Reading → ℕ → ℕ
-end_of Whole n = if ltb longest_file n then 0 else n
-end_of (Refused why place) n = 0
+-- a file that reads whole is never longer than the longest
+unfoldable pub end_of : ℕ → ℕ
+end_of n = if ltb longest_file n then 0 else n
 
-abbrev pub chain_of : Packs → ℕ → Chain
-chain_of found n = record {
-  packs = found.slots;
-  states = map_with fresh_slot found.slots blank_states;
+abbrev pub chain_of : List Pack → ℕ → Chain
+chain_of packs n = record {
+  packs = packs;
+  states = map_with fresh_slot packs blank_states;
   lines = low_lines;
-  length = record { 0 = end_of found.answer n };
+  length = record { 0 = n };
 }
 
+-- a refused file counts as empty
+abbrev pub fitted_of : Result (List Pack) Refused → ℕ → Fitted
+fitted_of (Ok packs) n = record { answer = Ok tt; chain = chain_of packs (end_of n) }
+fitted_of (Err refused) n = record { answer = Err refused; chain = chain_of no_packs 0 }
+
 unfoldable pub fresh_fit : List ℕ → Fitted
-fresh_fit file = record { answer = (read_all file).answer; chain = chain_of (read_all file) (length file) }
+fresh_fit file = fitted_of (read_all file) (length file)

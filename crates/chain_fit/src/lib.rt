@@ -3,33 +3,28 @@
 
 ghost use Rattle.std.specs.Prelude.{◌≡◌, length};
 ghost use Rattle.counts.specs.Slots.{map_with};
-ghost use Rattle.chain_fit.specs.Fresh.{low_lines, fresh_slot, blank_states, end_of, fresh_fit};
+ghost use Rattle.chain_fit.specs.Fresh.{low_lines, fresh_slot, blank_states, end_of, chain_of, fresh_fit};
 
 use chain_record::Chain;
-use counts::{Head, Place, SLOTS};
+use counts::{Place, SLOTS};
 use drive_record::State;
 use lines::Lines;
-use pack_read::read::Reading;
+use pack_read::read::Refused;
 use pack_read::{Pack, read};
+use std::array;
 
 // A chain, or why its file is refused and where; the chain is then the empty one.
+// Stays: law_chain's theorem refused_empty speaks of the chain of a refused file too.
 #[derive(Clone, Copy)]
 pub struct Fitted {
-    pub answer: Reading,
+    pub answer: Result<(), Refused>,
     pub chain: Chain,
 }
 
 fn low() -> Lines
     ensures { result ≡ low_lines }
 {
-    Lines {
-        select: 0,
-        heads: Head(0),
-        writegate: 0,
-        readgate: 0,
-        command: 0,
-        request: 0,
-    }
+    Lines::default()
 }
 
 #[tactic(auto, unfolding(crate::specs::Fresh::fresh_slot))]
@@ -39,62 +34,51 @@ fn fresh_slot(p: Pack, s: State) -> State
     if !pack_read::fitted(p) {
         return s;
     }
-    let profile = p.profile;
-    State::fresh(profile)
-}
-
-fn blank_states() -> [State; SLOTS]
-    ensures { result ≡ blank_states }
-{
-    let none = State::blank();
-    [none; SLOTS]
+    State::fresh(p.profile)
 }
 
 fn fresh_states(packs: [Pack; SLOTS]) -> [State; SLOTS]
     ensures { result ≡ map_with fresh_slot packs blank_states }
 {
-    let mut out = blank_states();
-    for i in 0..SLOTS {
-        let p = packs[i];
-        let s = out[i];
-        let t = fresh_slot(p, s);
-        out[i] = t;
-    }
-    out
+    array::from_fn(|i| fresh_slot(packs[i], State::blank()))
 }
 
-// The length of a file that is taken; a refused one counts as empty.
+// The length of a file that reads whole.
 #[tactic(auto, unfolding(crate::specs::Fresh::end_of))]
-fn end_of(answer: Reading, n: usize) -> u32
-    ensures { result ≡ end_of answer n }
+fn end_of(n: usize) -> u32
+    ensures { result ≡ end_of n }
 {
-    match answer {
-        Reading::Whole => {
-            if n > Pack::LONGEST {
-                return 0;
-            }
-            n as u32
-        }
-        Reading::Refused(_, _) => 0,
+    if n > Pack::LONGEST {
+        return 0;
+    }
+    n as u32
+}
+
+// Each drive fresh, on a file so long.
+fn chain_of(packs: [Pack; SLOTS], length: u32) -> Chain
+    ensures { result ≡ chain_of packs length }
+{
+    Chain {
+        packs,
+        states: fresh_states(packs),
+        lines: low(),
+        length: Place(length),
     }
 }
 
-// The chain fitted from a pack file.
+// The chain fitted from a pack file; a refused one counts as empty.
 #[tactic(auto, unfolding(crate::specs::Fresh::fresh_fit))]
 pub fn fit(file: &[u8]) -> Fitted
     ensures { result ≡ fresh_fit file.now }
 {
-    let found = read::read(file);
-    let answer = found.answer;
-    let packs = found.slots;
-    let states = fresh_states(packs);
-    let lines = low();
-    let length = Place(end_of(answer, file.len()));
-    let chain = Chain {
-        packs,
-        states,
-        lines,
-        length,
-    };
-    Fitted { answer, chain }
+    match read::read(file) {
+        Ok(packs) => Fitted {
+            answer: Ok(()),
+            chain: chain_of(packs, end_of(file.len())),
+        },
+        Err(refused) => Fitted {
+            answer: Err(refused),
+            chain: chain_of([Pack::none(); SLOTS], 0),
+        },
+    }
 }

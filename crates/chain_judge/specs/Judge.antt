@@ -1,9 +1,9 @@
 -- "Refusals 19 to 25 change nothing and are tried in that order": what three numbers come to on any record and any length of file.
-use Rattle.std.specs.Prelude.{ℕ, not, eqb}
+use Rattle.std.specs.Prelude.{ℕ, not, eqb, Result, Ok, Err}
 use Rattle.std.specs.Prelude.{if◌then◌else◌}
 use Rattle.event.specs.declared.Event.{Event}
-use Rattle.event.specs.declared.Decoded.{Decoded}
-use Rattle.event.specs.declared.Decoded.TheVariants.{Is, Unknown, Range}
+use Rattle.event.specs.declared.Undecoded.{Undecoded}
+use Rattle.event.specs.declared.Undecoded.TheVariants.{Unknown, Range}
 use Rattle.event.specs.declared.Answer.TheVariants.{UnknownKind, OutOfRange, Malformed, WrongLength}
 use Rattle.event.specs.Decode.{decode_of}
 use Rattle.chain_decision.specs.declared.Decision.{Decision}
@@ -20,10 +20,10 @@ allowed_of c long e =
     else decide_of c e)
 
 -- "20 unknown kind", "21 operand out of range"
-abbrev pub decoded_of : Chain → ℕ → Decoded → Decision
-decoded_of c long (Is e) = allowed_of c long e
-decoded_of c long Unknown = say_of c.lines UnknownKind
-decoded_of c long Range = say_of c.lines OutOfRange
+abbrev pub decoded_of : Chain → ℕ → Result Event Undecoded → Decision
+decoded_of c long (Ok e) = allowed_of c long e
+decoded_of c long (Err Unknown) = say_of c.lines UnknownKind
+decoded_of c long (Err Range) = say_of c.lines OutOfRange
 
 unfoldable pub judged_of : Chain → ℕ → ℕ → ℕ → ℕ → Decision
 judged_of c long kind a b = decoded_of c long (decode_of kind a b)

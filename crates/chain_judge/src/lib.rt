@@ -7,7 +7,7 @@ ghost use Rattle.chain_judge.specs.Judge.{judged_of};
 use chain_decide::decide;
 use chain_decision::Decision;
 use chain_record::Chain;
-use event::{Answer, Decoded};
+use event::{Answer, Undecoded};
 
 // Refusals 20 to 25 in their order, else what the event decides.
 #[tactic(auto, unfolding(crate::specs::Judge::judged_of, crate::specs::Judge::allowed_of))]
@@ -15,11 +15,10 @@ pub fn judge(c: Chain, long: usize, kind: u32, a: u32, b: u32) -> Decision
     ensures { result ≡ judged_of c long kind a b }
 {
     let lines = c.lines;
-    let decoded = event::decode::decode(kind, a, b);
-    match decoded {
-        Decoded::Unknown => chain_decision::say(lines, Answer::UnknownKind),
-        Decoded::Range => chain_decision::say(lines, Answer::OutOfRange),
-        Decoded::Is(e) => {
+    match event::decode::decode(kind, a, b) {
+        Err(Undecoded::Unknown) => chain_decision::say(lines, Answer::UnknownKind),
+        Err(Undecoded::Range) => chain_decision::say(lines, Answer::OutOfRange),
+        Ok(e) => {
             if !chain_sound::is_sound(c) {
                 return chain_decision::say(lines, Answer::Malformed);
             }

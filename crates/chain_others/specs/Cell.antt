@@ -1,5 +1,5 @@
 -- Kind 7.
-use Rattle.std.specs.Prelude.{ℕ, not, leb, eqb}
+use Rattle.std.specs.Prelude.{ℕ, not, leb, eqb, None}
 use Rattle.counts.specs.declared.Position.{Position}
 use Rattle.std.specs.Prelude.{if◌then◌else◌}
 use Rattle.event.specs.declared.Answer.TheVariants.{Unselected, Inhibited, PastTrack}
@@ -8,7 +8,6 @@ use Rattle.chain_decision.specs.declared.Change.TheVariants as change
 use Rattle.chain_decision.specs.declared.Spot.{Spot}
 use Rattle.chain_decision.specs.declared.Deed.{Deed}
 use Rattle.chain_decision.specs.declared.Deed.TheVariants as deed
-use Rattle.chain_decision.specs.declared.Sent.TheVariants as sent
 use Rattle.chain_decision.specs.declared.Decision.{Decision}
 use Rattle.chain_record.specs.declared.Seen.{Seen}
 use Rattle.chain_decision.specs.Decision.{say_of}
@@ -23,7 +22,7 @@ cell_spot d l position = record {
 }
 
 abbrev pub touching : Lines → Deed → Decision
-touching l x = record { lines = l; change = change.Nothing; word = sent.Nothing; deed = x }
+touching l x = record { lines = l; change = change.Nothing; word = None; deed = x }
 
 -- kind 7: "cell position at or past the selected drive's track length"; "A cell with neither writing nor reading is inhibited."
 unfoldable pub cell_event : Seen → Lines → Position → ℕ → Decision

@@ -2,7 +2,7 @@
 ghost use Rattle.std.specs.Prelude.{◌≡◌};
 ghost use Rattle.chain_others.specs.Condition.{fixed_change, condition_at};
 
-use chain_decision::{Change, Decision, Deed, Sent};
+use chain_decision::{Change, Decision};
 use drive_record::{State, faults};
 use event::Answer;
 use lines::Lines;
@@ -17,23 +17,17 @@ fn fixed_change(p: Pack, which: u8) -> bool
 }
 
 // A condition at a slot that has this pack and this state.
+// Stays: no plainer. The rules take parts of p and s and the decision takes l, so a struct of them would be taken apart at once.
 #[tactic(auto, unfolding(crate::specs::Condition::condition_at))]
 pub fn condition_at(l: Lines, p: Pack, s: State, slot: u8, which: u8) -> Decision
     ensures { result ≡ condition_at l p s slot which }
 {
-    if !pack_read::fitted(p) {
+    if !pack_read::fitted(p) | fixed_change(p, which) {
         return chain_decision::say(l, Answer::Inapplicable);
     }
-    if fixed_change(p, which) {
-        return chain_decision::say(l, Answer::Inapplicable);
-    }
-    let b = s.body;
-    let body = faults::condition(b, which);
-    let transfer = s.transfer;
+    let body = faults::condition(s.body, which);
     Decision {
-        lines: l,
-        change: Change::One(slot, State { body, transfer }),
-        word: Sent::Nothing,
-        deed: Deed::Say(Answer::Taken),
+        change: Change::One(slot, State { body, ..s }),
+        ..chain_decision::say(l, Answer::Taken)
     }
 }

@@ -1,8 +1,7 @@
 -- The slots of a chain, and the selected drive.
-use Rattle.std.specs.Prelude.{ℕ, ◌-◌, false, List, get_or}
+use Rattle.std.specs.Prelude.{ℕ, ◌-◌, List, get_or}
 use Rattle.std.specs.Prelude.{if◌then◌else◌}
 use Rattle.counts.specs.Slots.{slot_b}
-use Rattle.pack_profile.specs.Profile.{blank_profile}
 use Rattle.pack_read.specs.declared.Pack.{Pack}
 use Rattle.pack_read.specs.Packs.{no_pack}
 use Rattle.drive_record.specs.declared.State.{State}
@@ -17,9 +16,6 @@ slot_pack packs slot = if slot_b slot then get_or packs (slot - 1) no_pack else 
 
 unfoldable pub slot_state : List State → ℕ → State
 slot_state states slot = if slot_b slot then get_or states (slot - 1) blank_state else blank_state
-
-abbrev pub no_drive : Seen
-no_drive = record { selected = false; profile = blank_profile; state = blank_state }
 
 -- the selected drive, if a fitted one is
 unfoldable pub look_of : Chain → Seen

@@ -13,6 +13,7 @@ use pack_read::Pack;
 #[repr(C)]
 #[derive(Clone, Copy)]
 pub struct Chain {
+    // Stays: the C interface. The record that C lends has packs and states as two arrays (include/esdi.h).
     pub packs: [Pack; SLOTS],
     pub states: [State; SLOTS],
     pub lines: Lines,
@@ -20,6 +21,7 @@ pub struct Chain {
 }
 
 // The selected drive, if a fitted one is.
+// Stays: chain_lines, chain_select and chain_others promise their answers for any drive not selected too, and an Option would leave it out.
 #[derive(Clone, Copy)]
 pub struct Seen {
     pub selected: bool,

@@ -1,5 +1,5 @@
 -- Kind 0. "Select changes: the drive left .. The drive entered takes the head lines .. A line already high is no rise."
-use Rattle.std.specs.Prelude.{ℕ, false}
+use Rattle.std.specs.Prelude.{ℕ, false, None}
 use Rattle.std.specs.Prelude.{if◌then◌else◌}
 use Rattle.drive_record.specs.declared.Outcome.{Outcome}
 use Rattle.drive_record.specs.declared.Outcome.TheVariants as outcome
@@ -13,7 +13,6 @@ use Rattle.event.specs.declared.Answer.TheVariants.{Unselected, Fault}
 use Rattle.lines.specs.declared.Lines.{Lines}
 use Rattle.chain_decision.specs.declared.Change.TheVariants.{One, Two}
 use Rattle.chain_decision.specs.declared.Deed.TheVariants.{Say}
-use Rattle.chain_decision.specs.declared.Sent.TheVariants.{Nothing}
 use Rattle.chain_decision.specs.declared.Decision.{Decision}
 use Rattle.chain_record.specs.declared.Seen.{Seen}
 use Rattle.chain_decision.specs.Decision.{outcome_answer, heard_of, ruled_of}
@@ -27,13 +26,13 @@ either_answer outcome.Inhibited other = other
 
 -- no fitted drive is entered
 abbrev pub left_alone : ℕ → Ruled → Lines → Decision
-left_alone slot left l = record { lines = l; change = One slot left.state; word = Nothing; deed = Say (either_answer left.outcome Unselected) }
+left_alone slot left l = record { lines = l; change = One slot left.state; word = None; deed = Say (either_answer left.outcome Unselected) }
 
 abbrev pub both_of : ℕ → Ruled → Ruled → Lines → Decision
 both_of slot left entered l = record {
   lines = l;
   change = Two slot left.state l.select entered.state;
-  word = Nothing;
+  word = None;
   deed = Say (either_answer left.outcome (outcome_answer entered.outcome));
 }
 
@@ -42,6 +41,6 @@ unfoldable pub moved_of : Seen → Lines → Lines → Pack → State → Decisi
 moved_of d l m p s =
     if fitted_b p then
     (if d.selected then both_of l.select (left_of d.state) (met_of p.profile l.heads s) m
-    else ruled_of m Nothing (met_of p.profile l.heads s))
+    else ruled_of m None (met_of p.profile l.heads s))
     else (if d.selected then left_alone l.select (left_of d.state) m
     else heard_of m false)

@@ -11,6 +11,7 @@ use lib.Dec.{ltb, eqb}
 use lib.ListN.{get_or}
 use Rattle.counts.specs.declared.Place.{Place}
 use Rattle.counts.specs.declared.Position.{Position}
+use Rattle.std.specs.Prelude.{Option, Some, None, is_some, unwrap_or}
 use Rattle.std.specs.Prelude.{if◌then◌else◌}
 use Rattle.counts.specs.Slots.{slot_b, all_with}
 use Rattle.counts.proofs.Choice.{guarded}
@@ -30,7 +31,6 @@ use Rattle.lines.specs.Lines.{lines_b}
 use Rattle.drive_cable.proofs.OnCable.{Selected, selected, writes, reads}
 use Rattle.chain_record.specs.declared.Chain.{Chain}
 use Rattle.chain_record.specs.declared.Seen.{Seen}
-use Rattle.chain_sound.specs.declared.Placed.{Placed}
 use Rattle.chain_record.specs.Record.{slot_pack, slot_state, look_of}
 use Rattle.chain_decision.specs.Deeds.{spot_place}
 use Rattle.chain_others.specs.Cell.{cell_spot}
@@ -55,37 +55,40 @@ pub record InFile (slot len : ℕ) (p : Pack) : Type 0 where
   pub within : pack_end p ≤ len
 
 -- what is placed, by its tests
-abbrev placed_by : Bool → Bool → Bool → Bool → Place → ℕ → Placed
+abbrev placed_by : Bool → Bool → Bool → Bool → Place → ℕ → Option Place
 placed_by a b long ok at end =
-    if a then record { ok = false; end = at }
-    else (if not b then record { ok = true; end = at }
-    else (if long then record { ok = false; end = at }
-    else record { ok = ok; end = record { 0 = end } }))
+    if a then None
+    else (if not b then Some at
+    else (if long then None
+    else (if not ok then None
+    else Some (record { 0 = end }))))
 
-goes_on : (a b long ok : Bool) (at : Place) (end : ℕ) → (ok ≡ true → at.0 ≤ end) → (placed_by a b long ok at end).ok ≡ true
-    → at.0 ≤ (placed_by a b long ok at end).end.0
+goes_on : (a b long ok : Bool) (at : Place) (end : ℕ) → (ok ≡ true → at.0 ≤ end) → is_some (placed_by a b long ok at end) ≡ true
+    → at.0 ≤ (unwrap_or (placed_by a b long ok at end) at).0
 goes_on true b long ok at end k h = absurd (false≢true h)
 goes_on false false long ok at end k h = omega arith
 goes_on false true true ok at end k h = absurd (false≢true h)
-goes_on false true false ok at end k h = k h
+goes_on false true false true at end k h = k refl
+goes_on false true false false at end k h = absurd (false≢true h)
 
-holds : (a b long ok : Bool) (at : Place) (end : ℕ) → (placed_by a b long ok at end).ok ≡ true → b ≡ true
-    → (ok ≡ true) × ((placed_by a b long ok at end).end.0 ≡ end)
+holds : (a b long ok : Bool) (at : Place) (end : ℕ) → is_some (placed_by a b long ok at end) ≡ true → b ≡ true
+    → (ok ≡ true) × ((unwrap_or (placed_by a b long ok at end) at).0 ≡ end)
 holds true b long ok at end h e = absurd (false≢true h)
 holds false false long ok at end h e = absurd (false≢true e)
 holds false true true ok at end h e = absurd (false≢true h)
-holds false true false ok at end h e = (h, refl)
+holds false true false true at end h e = (refl, refl)
+holds false true false false at end h e = absurd (false≢true h)
 
-module _ (p : Pack) (slot : ℕ) (at : Place) (h : (placed_of p slot at).ok ≡ true) where
+module _ (p : Pack) (slot : ℕ) (at : Place) (h : (is_some (placed_of p slot at)) ≡ true) where
   -- the packs only go forward
-  forward : at.0 ≤ (placed_of p slot at).end.0
+  forward : at.0 ≤ (unwrap_or (placed_of p slot at) at).0
   unfolding placed_of
   forward =
       goes_on (ltb 1 p.fitted) (eqb p.fitted 1) (ltb longest_file (pack_end p)) (pack_b p slot at) at (pack_end p)
       (λ ok. omega (arith, eqb-true p.place.0 at.0 (each (pack_tests p slot at) ok).1.0)) h
 
   -- a fitted pack passes its tests, and the next starts at its end
-  passes : p.fitted ≡ 1 → Each (pack_tests p slot at) × ((placed_of p slot at).end.0 ≡ pack_end p)
+  passes : p.fitted ≡ 1 → Each (pack_tests p slot at) × ((unwrap_or (placed_of p slot at) at).0 ≡ pack_end p)
   unfolding placed_of
   passes f =
       let r = holds (ltb 1 p.fitted) (eqb p.fitted 1) (ltb longest_file (pack_end p)) (pack_b p slot at) at (pack_end p) h (eq-eqb _ _ f) in
@@ -94,7 +97,7 @@ module _ (p : Pack) (slot : ℕ) (at : Place) (h : (placed_of p slot at).ok ≡ 
   starts : p.fitted ≡ 1 → p.place.0 ≡ at.0
   starts f = eqb-true _ _ (passes f).0.1.0
 
-  stands : p.fitted ≡ 1 → InFile slot (placed_of p slot at).end.0 p
+  stands : p.fitted ≡ 1 → InFile slot (unwrap_or (placed_of p slot at) at).0 p
   stands f =
       let e = (passes f).0 in
       record { own = eqb-true _ _ e.0; valid = e.1.1.0; within = omega (arith, (passes f).1) }
@@ -102,30 +105,30 @@ module _ (p : Pack) (slot : ℕ) (at : Place) (h : (placed_of p slot at).ok ≡ 
 ends : (packs : List Pack) (slot : ℕ) (at len : Place) → places_b packs slot at len ≡ true → at.0 ≤ len.0
 ends [] slot at len h = omega (arith, eqb-true at.0 len.0 h)
 ends (p ∷ packs) slot at len h =
-    let g = guarded (placed_of p slot at).ok _ h in
-    omega (arith, forward p slot at g.0, ends packs (slot + 1) (placed_of p slot at).end len g.1)
+    let g = guarded (is_some (placed_of p slot at)) _ h in
+    omega (arith, forward p slot at g.0, ends packs (slot + 1) (unwrap_or (placed_of p slot at) at) len g.1)
 
 -- each fitted pack stands in its own slot, within the file
 pub placed_at : (packs : List Pack) (slot : ℕ) (at len : Place) (i : ℕ) → places_b packs slot at len ≡ true → (get_or packs i no_pack).fitted ≡ 1
     → InFile (slot + i) len.0 (get_or packs i no_pack)
 placed_at [] slot at len i h f = absurd (omega arith)
 placed_at (p ∷ packs) slot at len zero h f =
-    let g = guarded (placed_of p slot at).ok _ h in
+    let g = guarded (is_some (placed_of p slot at)) _ h in
     let s = stands p slot at g.0 f in
-    record { own = omega arith; valid = s.valid; within = omega (arith, ends packs (slot + 1) (placed_of p slot at).end len g.1) }
+    record { own = omega arith; valid = s.valid; within = omega (arith, ends packs (slot + 1) (unwrap_or (placed_of p slot at) at) len g.1) }
 placed_at (p ∷ packs) slot at len (suc i) h f =
-    let g = guarded (placed_of p slot at).ok _ h in
-    let s = placed_at packs (slot + 1) (placed_of p slot at).end len i g.1 f in
+    let g = guarded (is_some (placed_of p slot at)) _ h in
+    let s = placed_at packs (slot + 1) (unwrap_or (placed_of p slot at) at) len i g.1 f in
     record { own = omega arith; valid = s.valid; within = s.within }
 
 -- no pack starts in front of those before it
 later : (packs : List Pack) (slot : ℕ) (at len : Place) (i : ℕ) → places_b packs slot at len ≡ true → (get_or packs i no_pack).fitted ≡ 1
     → at.0 ≤ (get_or packs i no_pack).place.0
 later [] slot at len i h f = absurd (omega arith)
-later (p ∷ packs) slot at len zero h f = omega (arith, starts p slot at (guarded (placed_of p slot at).ok _ h).0 f)
+later (p ∷ packs) slot at len zero h f = omega (arith, starts p slot at (guarded (is_some (placed_of p slot at)) _ h).0 f)
 later (p ∷ packs) slot at len (suc i) h f =
-    let g = guarded (placed_of p slot at).ok _ h in
-    omega (arith, forward p slot at g.0, later packs (slot + 1) (placed_of p slot at).end len i g.1 f)
+    let g = guarded (is_some (placed_of p slot at)) _ h in
+    omega (arith, forward p slot at g.0, later packs (slot + 1) (unwrap_or (placed_of p slot at) at) len i g.1 f)
 
 -- of two fitted packs the one ends before the other starts
 pub in_order : (packs : List Pack) (slot : ℕ) (at len : Place) (i j : ℕ) → places_b packs slot at len ≡ true → (get_or packs i no_pack).fitted ≡ 1
@@ -133,11 +136,11 @@ pub in_order : (packs : List Pack) (slot : ℕ) (at len : Place) (i j : ℕ) →
 in_order [] slot at len i j h f k lt = absurd (omega arith)
 in_order (p ∷ packs) slot at len i zero h f k lt = absurd (omega arith)
 in_order (p ∷ packs) slot at len zero (suc j) h f k lt =
-    let g = guarded (placed_of p slot at).ok _ h in
-    omega (arith, (passes p slot at g.0 f).1, later packs (slot + 1) (placed_of p slot at).end len j g.1 k)
+    let g = guarded (is_some (placed_of p slot at)) _ h in
+    omega (arith, (passes p slot at g.0 f).1, later packs (slot + 1) (unwrap_or (placed_of p slot at) at) len j g.1 k)
 in_order (p ∷ packs) slot at len (suc i) (suc j) h f k lt =
-    let g = guarded (placed_of p slot at).ok _ h in
-    in_order packs (slot + 1) (placed_of p slot at).end len i j g.1 f k (omega arith)
+    let g = guarded (is_some (placed_of p slot at)) _ h in
+    in_order packs (slot + 1) (unwrap_or (placed_of p slot at) at) len i j g.1 f k (omega arith)
 
 pub blank_drive : (l : Lines) (s : State) → drive_b l no_pack s ≡ true
 unfolding drive_b

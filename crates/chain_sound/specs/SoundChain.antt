@@ -1,5 +1,5 @@
 -- "A record is malformed when ..", said of one that is not.
-use Rattle.std.specs.Prelude.{ℕ, ◌+◌, Bool, true, false, not, List, [], ◌∷◌, ltb, eqb}
+use Rattle.std.specs.Prelude.{ℕ, ◌+◌, Bool, true, false, not, List, [], ◌∷◌, ltb, eqb, Option, Some, None, is_some, unwrap_or}
 use Rattle.counts.specs.declared.Place.{Place}
 use Rattle.std.specs.Prelude.{if◌then◌else◌}
 use Rattle.counts.specs.Slots.{all_with}
@@ -15,7 +15,6 @@ use Rattle.lines.specs.Lines.{lines_b}
 use Rattle.drive_cable.specs.SoundDrive as unit
 use Rattle.pack_read.specs.Packs.{fitted_b}
 use Rattle.chain_record.specs.declared.Chain.{Chain}
-use Rattle.chain_sound.specs.declared.Placed.{Placed}
 
 -- "a pack's place isn't one the file rules could give": it names its own slot and starts where those in front of it end
 abbrev pub pack_tests : Pack → ℕ → Place → List Bool
@@ -28,13 +27,14 @@ pack_b p slot at = all_of (pack_tests p slot at)
 abbrev pub pack_end : Pack → ℕ
 pack_end p = p.place.0 + medium_of p.profile.shape + trailer_length
 
--- whether a slot's pack may stand, and where the packs up to it end
-unfoldable pub placed_of : Pack → ℕ → Place → Placed
+-- where the packs up to a slot's end, if its pack may stand
+unfoldable pub placed_of : Pack → ℕ → Place → Option Place
 placed_of p slot at =
-    if ltb 1 p.fitted then record { ok = false; end = at }
-    else (if not (fitted_b p) then record { ok = true; end = at }
-    else (if ltb longest_file (pack_end p) then record { ok = false; end = at }  -- "over 2,147,483,647 bytes": no file is so long
-    else record { ok = pack_b p slot at; end = record { 0 = pack_end p } }))
+    if ltb 1 p.fitted then None
+    else (if not (fitted_b p) then Some at
+    else (if ltb longest_file (pack_end p) then None  -- "over 2,147,483,647 bytes": no file is so long
+    else (if not (pack_b p slot at) then None
+    else Some (record { 0 = pack_end p }))))
 
 abbrev pub file_start : Place
 file_start = record { 0 = 0 }
@@ -43,7 +43,7 @@ file_start = record { 0 = 0 }
 abbrev pub places_b : List Pack → ℕ → Place → Place → Bool
 places_b [] slot at end = eqb at.0 end.0
 places_b (p ∷ packs) slot at end =
-    if not (placed_of p slot at).ok then false else places_b packs (slot + 1) (placed_of p slot at).end end
+    if not (is_some (placed_of p slot at)) then false else places_b packs (slot + 1) (unwrap_or (placed_of p slot at) at) end
 
 -- an empty slot is not looked at
 unfoldable pub drive_b : Lines → Pack → State → Bool

@@ -2,7 +2,8 @@
 #![tactic(auto)]
 
 ghost use Rattle.std.specs.Prelude.{◌≡◌};
-ghost use Rattle.chain_sound.specs.SoundChain.{pack_b, placed_of, drive_b, chain_sound_b};
+ghost use Rattle.counts.specs.Slots.{all_with};
+ghost use Rattle.chain_sound.specs.SoundChain.{pack_b, placed_of, file_start, places_b, drive_b, chain_sound_b};
 
 use chain_record::Chain;
 use counts::{Place, SLOTS};
@@ -16,37 +17,47 @@ fn pack_ok(p: Pack, slot: u8, at: Place) -> bool
     ensures { result ≡ pack_b p slot at }
 {
     let profile = p.profile;
-    (profile.slot == slot) & (p.place.0 == at.0) & pack_profile::valid::valid(profile)
+    (profile.slot == slot) & (p.place == at) & pack_profile::valid::valid(profile)
 }
 
-// Whether a slot's pack may stand, and where the packs up to it end.
-#[derive(Clone, Copy)]
-pub struct Placed {
-    pub ok: bool,
-    pub end: Place,
-}
-
+// Where the packs up to a slot's end, if its pack may stand.
 #[tactic(auto, unfolding(crate::specs::SoundChain::placed_of))]
-fn place(p: Pack, slot: u8, at: Place) -> Placed
+fn place(p: Pack, slot: u8, at: Place) -> Option<Place>
     ensures { result ≡ placed_of p slot at }
 {
     if p.fitted > 1 {
-        return Placed { ok: false, end: at };
+        return None;
     }
     if !pack_read::fitted(p) {
-        return Placed { ok: true, end: at };
+        return Some(at);
     }
     let shape = p.profile.shape;
     let end = p.place.0 as usize + pack_profile::medium(shape) + pack_trailer::LENGTH;
     if end > Pack::LONGEST {
-        return Placed { ok: false, end: at };
+        return None;
     }
-    Placed {
-        ok: pack_ok(p, slot, at),
-        end: Place(end as u32),
+    if !pack_ok(p, slot, at) {
+        return None;
     }
+    Some(Place(end as u32))
 }
 
+// Every pack stands where reading the file would put it, and the last ends at the file's end.
+fn packs_ok(packs: &[Pack; SLOTS], end: Place) -> bool
+    ensures { result ≡ places_b packs.now 1 file_start end }
+{
+    let mut at = Place(0);
+    for (i, p) in packs.iter().enumerate() {
+        let Some(next) = place(*p, i as u8 + 1, at) else {
+            return false;
+        };
+        at = next;
+    }
+    at == end
+}
+
+// A slot's drive, with the lines.
+// Stays: no plainer. The pack gives its profile alone and sound takes s and l, so a struct of them would be taken apart at once.
 #[tactic(auto, unfolding(crate::specs::SoundChain::drive_b))]
 fn drive_ok(p: Pack, s: State, l: Lines) -> bool
     ensures { result ≡ drive_b l p s }
@@ -58,8 +69,20 @@ fn drive_ok(p: Pack, s: State, l: Lines) -> bool
     sound::sound(profile, s, l, l.select == profile.slot)
 }
 
-// The record isn't malformed: every pack stands where reading the file would put it, the last ends at the file's end, and
-// every drive is one that the rules could leave. A slot's parts alone are taken out of the record, which is large.
+// Every drive is one that the rules could leave.
+// Stays: tried `.all(..)` on the zip: that its calls, stopped at the first that fails, give all_with stayed open (`returns`).
+fn drives_ok(packs: &[Pack; SLOTS], states: &[State; SLOTS], l: Lines) -> bool
+    ensures { result ≡ all_with (drive_b l) packs.now states.now }
+{
+    for (p, s) in packs.iter().zip(states) {
+        if !drive_ok(*p, *s, l) {
+            return false;
+        }
+    }
+    true
+}
+
+// The record isn't malformed. It is large, so its parts are lent.
 #[tactic(auto, unfolding(crate::specs::SoundChain::chain_sound_b))]
 pub fn is_sound(c: Chain) -> bool
     ensures { result ≡ chain_sound_b c }
@@ -68,18 +91,8 @@ pub fn is_sound(c: Chain) -> bool
     if !lines::kept(l) {
         return false;
     }
-    let mut at = Place(0);
-    for i in 0..SLOTS {
-        let p = c.packs[i];
-        let s = c.states[i];
-        let placed = place(p, i as u8 + 1, at);
-        if !placed.ok {
-            return false;
-        }
-        if !drive_ok(p, s, l) {
-            return false;
-        }
-        at = placed.end;
+    if !packs_ok(&c.packs, c.length) {
+        return false;
     }
-    at.0 == c.length.0
+    drives_ok(&c.packs, &c.states, l)
 }

@@ -6,6 +6,7 @@ use Prim.Native.Nat.{ℕ, ◌≤◌}
 use native.Mathlib.Omega.{arith}
 use lib.Dec.{eqb}
 use lib.ListN.{length}
+use Rattle.std.specs.Prelude.{Result, Ok, Err}
 use Rattle.std.specs.Prelude.{if◌then◌else◌}
 use Rattle.counts.proofs.Choice.{by_test}
 use Rattle.handshake.specs.Edges.{late_b}
@@ -15,8 +16,8 @@ use Rattle.drive_rules.specs.DriveLeft.{left_of}
 use Rattle.event.specs.declared.Answer.{Answer}
 use Rattle.event.specs.declared.Answer.TheVariants.{Taken, Unselected, Fault}
 use Rattle.event.specs.declared.Event.{Event}
-use Rattle.event.specs.declared.Decoded.{Decoded}
-use Rattle.event.specs.declared.Decoded.TheVariants.{Is, Unknown, Range}
+use Rattle.event.specs.declared.Undecoded.{Undecoded}
+use Rattle.event.specs.declared.Undecoded.TheVariants.{Unknown, Range}
 use Rattle.event.specs.Answer.{answer_number}
 use Rattle.event.specs.Decode.{decode_of}
 use Rattle.chain_record.specs.declared.Chain.{Chain}
@@ -93,8 +94,8 @@ module _ (c : Chain) (file : List ℕ) where
   unfolding step_of step_file judged_of applied changed_of
   refused_leaves kind a b = by (decode_of kind a b)
     where
-      by : (x : Decoded) → 20 ≤ answer_number (said_of c.packs (decoded_of c (length file) x).deed file)
+      by : (x : Result Event Undecoded) → 20 ≤ answer_number (said_of c.packs (decoded_of c (length file) x).deed file)
           → (applied c (decoded_of c (length file) x) ≡ c) × (file_after c.packs (decoded_of c (length file) x).deed file ≡ file)
-      by (Is e) = allowed e
-      by Unknown = λ h. (refl, refl)
-      by Range = λ h. (refl, refl)
+      by (Ok e) = allowed e
+      by (Err Unknown) = λ h. (refl, refl)
+      by (Err Range) = λ h. (refl, refl)

@@ -30,12 +30,8 @@ pub struct Stepped {
 fn place_of(packs: [Pack; SLOTS], s: Spot) -> usize
     ensures { result ≡ spot_place packs s }
 {
-    let cylinder = s.cylinder;
-    let head = s.head;
-    let position = s.position;
     let p = slots::pack_in(packs, s.slot);
-    let profile = p.profile;
-    p.place.0 as usize + cell::place(profile, cylinder, head, position)
+    p.place.0 as usize + cell::place(p.profile, s.cylinder, s.head, s.position)
 }
 
 // The one place that touches the file: one byte read, one byte written, or nothing.
@@ -58,14 +54,13 @@ fn obey(packs: [Pack; SLOTS], file: &mut [u8], deed: Deed) -> Answer
 }
 
 // An event, given by its three numbers, judged and done on the file.
+// Stays: no plainer. C gives the three singly and step_of names them, so a struct would be made for each call and taken apart in decode.
 #[tactic(auto, unfolding(crate::specs::Step::perform_of, crate::specs::Step::step_file))]
 pub fn perform(c: Chain, file: &mut [u8], kind: u32, a: u32, b: u32) -> Performed
     ensures { (result ≡ perform_of kind a b c file.old) × (file.new ≡ step_file kind a b c file.old) }
 {
     let decision = chain_judge::judge(c, file.len(), kind, a, b);
-    let packs = c.packs;
-    let deed = decision.deed;
-    let answer = obey(packs, file, deed);
+    let answer = obey(c.packs, file, decision.deed);
     Performed { decision, answer }
 }
 
@@ -75,8 +70,9 @@ pub fn step(c: Chain, file: &mut [u8], kind: u32, a: u32, b: u32) -> Stepped
     ensures { (result ≡ step_of kind a b c file.old) × (file.new ≡ step_file kind a b c file.old) }
 {
     let performed = perform(c, file, kind, a, b);
-    let d = performed.decision;
-    let answer = performed.answer;
-    let chain = chain_apply::apply(c, d);
-    Stepped { chain, answer }
+    let chain = chain_apply::apply(c, performed.decision);
+    Stepped {
+        chain,
+        answer: performed.answer,
+    }
 }

@@ -1,5 +1,5 @@
 -- "Handshake .., selected drive only": what request's edges do to a drive.
-use Rattle.std.specs.Prelude.{Bool, ◌||◌, eqb}
+use Rattle.std.specs.Prelude.{ℕ, Bool, ◌||◌, eqb, Option, Some, None}
 use Rattle.pack_profile.specs.declared.Profile.{Profile}
 use Rattle.handshake.specs.declared.Transfer.{Transfer}
 use Rattle.handshake.specs.declared.Fallen.{Fallen}
@@ -14,8 +14,6 @@ use Rattle.drive_record.specs.State.{state_of, ruled}
 use Rattle.drive_record.specs.Status.{calm_b}
 use Rattle.drive_record.specs.Faults.{held_of}
 use Rattle.word_rules.specs.declared.Carried.{Carried}
-use Rattle.word_rules.specs.declared.Told.{Told}
-use Rattle.word_rules.specs.declared.Told.TheVariants.{Nothing, Word}
 use Rattle.word_rules.specs.Rules.{carry_of}
 use Rattle.lines.specs.declared.Lines.{Lines}
 
@@ -27,9 +25,9 @@ unfoldable pub request_rises : Lines → State → Ruled
 request_rises l s = held_of s.body (rise_of (gated_b l) (calm_b s.body) l.command s.transfer)
 
 -- "after the 17th bit in, the word is carried out and any response is fixed"
-abbrev pub after_word : Told → Transfer
-after_word Nothing = no_transfer
-after_word (Word response) = responding_with response
+abbrev pub after_word : Option ℕ → Transfer
+after_word None = no_transfer
+after_word (Some response) = responding_with response
 
 abbrev pub carried_out : Carried → Ruled
 carried_out c = ruled c.outcome (state_of c.body (after_word c.told))

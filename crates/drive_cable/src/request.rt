@@ -6,7 +6,6 @@ use drive_record::{Outcome, Ruled, State, faults, status};
 use handshake::{Fallen, Transfer};
 use lines::Lines;
 use pack_profile::Profile;
-use word_rules::Told;
 
 fn gated(l: Lines) -> bool
     ensures { result ≡ gated_b l }
@@ -24,12 +23,12 @@ pub fn rises(s: State, l: Lines) -> Ruled
 }
 
 // The response is fixed, or there is none and the transfer ends.
-fn after_word(told: Told) -> Transfer
+fn after_word(told: Option<u32>) -> Transfer
     ensures { result ≡ after_word told }
 {
     match told {
-        Told::Nothing => Transfer::none(),
-        Told::Word(response) => Transfer::responding(response),
+        None => Transfer::none(),
+        Some(response) => Transfer::responding(response),
     }
 }
 
@@ -41,22 +40,18 @@ pub fn falls(p: Profile, s: State) -> Ruled
     let t = s.transfer;
     let f = handshake::fall(t);
     match f {
-        Fallen::Keep(transfer) => {
-            let body = b;
-            Ruled {
-                state: State { body, transfer },
-                outcome: Outcome::Done,
-            }
-        }
+        Fallen::Keep(transfer) => Ruled {
+            state: State { body: b, transfer },
+            outcome: Outcome::Done,
+        },
         Fallen::Carry(n) => {
             let c = word_rules::carry(p, b, n);
-            let body = c.body;
-            let told = c.told;
-            let transfer = after_word(told);
-            let outcome = c.outcome;
             Ruled {
-                state: State { body, transfer },
-                outcome,
+                state: State {
+                    body: c.body,
+                    transfer: after_word(c.told),
+                },
+                outcome: c.outcome,
             }
         }
     }

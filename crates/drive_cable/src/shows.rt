@@ -7,10 +7,7 @@ use drive_record::{State, status};
 fn weight(on: bool, n: u8) -> u8
     ensures { Weight on n result }
 {
-    if on {
-        return n;
-    }
-    0
+    u8::from(on) * n
 }
 
 // 1 selected, 2 ready, 4 acknowledge, 8 data, 16 attention, 32 complete.

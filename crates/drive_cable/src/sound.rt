@@ -7,6 +7,7 @@ use lines::Lines;
 use pack_profile::Profile;
 
 // A writing drive's gate is high and no rule of the write gate would stop it.
+// Stays: no plainer. sound and drive_gates::usable take p and s singly, so a struct of both, here and below, would be taken apart for usable.
 #[tactic(auto, unfolding(crate::specs::SoundDrive::writing_b))]
 fn writing_ok(p: Profile, s: State, l: Lines) -> bool
     ensures { result ≡ writing_b p l s }
@@ -33,7 +34,7 @@ fn selected_ok(p: Profile, s: State, l: Lines) -> bool
     ensures { result ≡ selected_b p l s }
 {
     let t = s.transfer;
-    (s.body.head.0 == l.heads.0)
+    (s.body.head == l.heads)
         & handshake::could_leave(t, l.request)
         & writing_ok(p, s, l)
         & reading_ok(p, s, l)

@@ -25,9 +25,8 @@ fn faulted(s: State, b: Body, bit: u16) -> Ruled
     ensures { result ≡ faulted_by bit b s }
 {
     let body = faults::latch(b, bit);
-    let transfer = s.transfer;
     Ruled {
-        state: State { body, transfer },
+        state: State { body, ..s },
         outcome: Outcome::Fault,
     }
 }
@@ -39,8 +38,7 @@ pub fn write_rises(p: Profile, s: State, readgate: u16) -> Ruled
 {
     let b = s.body;
     if readgate == 1 {
-        let mut e = b;
-        e.reading = 0;
+        let e = Body { reading: 0, ..b };
         return faulted(s, e, Latched::INTERFACE);
     }
     if status::attention(b) {
@@ -58,20 +56,22 @@ pub fn write_rises(p: Profile, s: State, readgate: u16) -> Ruled
     if p.protected == 1 {
         return faulted(s, b, Latched::WRITE);
     }
-    let mut e = s;
-    e.body.writing = 1;
+    let body = Body { writing: 1, ..b };
     Ruled {
-        state: e,
+        state: State { body, ..s },
         outcome: Outcome::Done,
     }
 }
 
+// Stays: no plainer. write_falls and read_falls over a trait Gate would write each field's setting in its impl, and that is all they do.
 pub fn write_falls(s: State) -> State
     ensures { result ≡ write_falls s }
 {
-    let mut e = s;
-    e.body.writing = 0;
-    e
+    let body = Body {
+        writing: 0,
+        ..s.body
+    };
+    State { body, ..s }
 }
 
 // Read gate rising; writegate is the write gate's level.
@@ -89,10 +89,9 @@ pub fn read_rises(p: Profile, s: State, writegate: u16) -> Ruled
             outcome: Outcome::Inhibited,
         };
     }
-    let mut e = s;
-    e.body.reading = 1;
+    let body = Body { reading: 1, ..b };
     Ruled {
-        state: e,
+        state: State { body, ..s },
         outcome: Outcome::Done,
     }
 }
@@ -100,7 +99,9 @@ pub fn read_rises(p: Profile, s: State, writegate: u16) -> Ruled
 pub fn read_falls(s: State) -> State
     ensures { result ≡ read_falls s }
 {
-    let mut e = s;
-    e.body.reading = 0;
-    e
+    let body = Body {
+        reading: 0,
+        ..s.body
+    };
+    State { body, ..s }
 }

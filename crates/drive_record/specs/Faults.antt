@@ -1,10 +1,9 @@
 -- Latching, the conditions of kind 8, and a transfer dropped.
-use Rattle.std.specs.Prelude.{ℕ, ◌^◌, eqb}
+use Rattle.std.specs.Prelude.{ℕ, ◌^◌, eqb, Option, Some, None}
 use Rattle.std.specs.Int.Bits.{bit_or}
 use Rattle.std.specs.Prelude.{if◌then◌else◌}
 use Rattle.drive_record.specs.declared.Body.{Body}
-use Rattle.handshake.specs.declared.Held.{Held}
-use Rattle.handshake.specs.declared.Held.TheVariants.{Keep, Drop}
+use Rattle.handshake.specs.declared.Transfer.{Transfer}
 use Rattle.handshake.specs.Transfer.{no_transfer}
 use Rattle.drive_record.specs.declared.State.{State}
 use Rattle.drive_record.specs.declared.Outcome.TheVariants.{Done, Fault}
@@ -35,6 +34,6 @@ abbrev pub dropped_of : Body → State
 dropped_of b = state_of (latch_bit 6 b) no_transfer
 
 -- a dropped transfer is "a fault rule applied"
-abbrev pub held_of : Body → Held → Ruled
-held_of b (Keep t) = ruled Done (state_of b t)
-held_of b Drop = ruled Fault (dropped_of b)
+abbrev pub held_of : Body → Option Transfer → Ruled
+held_of b (Some t) = ruled Done (state_of b t)
+held_of b None = ruled Fault (dropped_of b)

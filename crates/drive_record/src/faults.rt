@@ -2,43 +2,40 @@
 ghost use Rattle.std.specs.Prelude.{◌≡◌};
 ghost use Rattle.drive_record.specs.Faults.{latch_of, condition_of, dropped_of, held_of};
 
-use crate::{Body, Latched, Outcome, Ruled, State};
-use handshake::{Held, Transfer};
+use crate::{Arm, Body, Latched, Outcome, Ruled, State};
+use handshake::Transfer;
 
 // A bit of the status word, by its value. Latching any bit ends writing.
 #[tactic(auto, unfolding(crate::specs::Faults::latch_of))]
 pub fn latch(b: Body, bit: u16) -> Body
     ensures { result ≡ latch_of bit b }
 {
-    let mut e = b;
-    let l = Latched(b.latched.0 | bit);
-    e.latched = l;
-    e.writing = 0;
-    e
+    Body {
+        latched: Latched(b.latched.0 | bit),
+        writing: 0,
+        ..b
+    }
 }
 
 // 1 begins a write fault, 2 seek error, 3 medium changed, 4 ends the write fault.
-#[tactic(auto, unfolding(crate::specs::Faults::condition_of))]
+// Stays: condition promises its answer for every number (condition_of): each but these three does what 4 does.
+#[tactic(auto, unfolding(crate::specs::Faults::condition_of, crate::specs::Faults::latch_of))]
 pub fn condition(b: Body, which: u8) -> Body
     ensures { result ≡ condition_of which b }
 {
-    if which == 1 {
-        let mut e = latch(b, Latched::WRITE);
-        e.standing = 1;
-        return e;
+    match which {
+        1 => Body {
+            standing: 1,
+            ..latch(b, Latched::WRITE)
+        },
+        2 => Body {
+            arm: Arm { lost: 1, ..b.arm },
+            reading: 0,
+            ..latch(b, Latched::SEEK)
+        },
+        3 => latch(b, Latched::CHANGED),
+        _ => Body { standing: 0, ..b },
     }
-    if which == 2 {
-        let mut e = latch(b, Latched::SEEK);
-        e.arm.lost = 1;
-        e.reading = 0;
-        return e;
-    }
-    if which == 3 {
-        return latch(b, Latched::CHANGED);
-    }
-    let mut e = b;
-    e.standing = 0;
-    e
 }
 
 // Bit 6, and the transfer is dropped.
@@ -50,19 +47,16 @@ pub fn dropped(b: Body) -> State
     State { body, transfer }
 }
 
-// What a rise of request or a wait does to the drive: its transfer goes on, or is dropped for a fault.
-pub fn held(b: Body, h: Held) -> Ruled
+// What a rise of request or a wait does to the drive: its transfer goes on, or, with none, is dropped for a fault.
+pub fn held(b: Body, h: Option<Transfer>) -> Ruled
     ensures { result ≡ held_of b h }
 {
     match h {
-        Held::Keep(transfer) => {
-            let body = b;
-            Ruled {
-                state: State { body, transfer },
-                outcome: Outcome::Done,
-            }
-        }
-        Held::Drop => Ruled {
+        Some(transfer) => Ruled {
+            state: State { body: b, transfer },
+            outcome: Outcome::Done,
+        },
+        None => Ruled {
             state: dropped(b),
             outcome: Outcome::Fault,
         },

@@ -14,12 +14,13 @@ use pack_profile::{Profile, Times};
 
 // The latched bits, at their places in the status word.
 #[repr(C)]
-#[derive(Clone, Copy)]
+#[derive(Clone, Copy, Default, PartialEq, Eq)]
 pub struct Latched(pub u16);
 
 // Where the heads are. offset: 0 none, 1 is +1, 2 is -1. lost: 1 where the position is lost.
+// Stays: numbers, since C lends the record.
 #[repr(C)]
-#[derive(Clone, Copy)]
+#[derive(Clone, Copy, Default, PartialEq, Eq)]
 pub struct Arm {
     pub cylinder: Cylinder,
     pub offset: u8,
@@ -28,7 +29,7 @@ pub struct Arm {
 
 // What is left of the busy time and of the head switch.
 #[repr(C)]
-#[derive(Clone, Copy)]
+#[derive(Clone, Copy, Default, PartialEq, Eq)]
 pub struct Timers {
     pub busy: Micros,
     pub head: Micros,
@@ -36,8 +37,9 @@ pub struct Timers {
 
 // All of a drive but its transfer. motor: 0 stopped, 1 starting, 2 up. sector: the size now in force.
 // standing: 1 while a write fault stands; wider than it needs, so that no byte is padding.
+// Stays: motor, reading, writing and standing are numbers, since C lends the record.
 #[repr(C)]
-#[derive(Clone, Copy)]
+#[derive(Clone, Copy, Default, PartialEq, Eq)]
 pub struct Body {
     pub timers: Timers,
     pub arm: Arm,
@@ -51,7 +53,7 @@ pub struct Body {
 }
 
 #[repr(C)]
-#[derive(Clone, Copy)]
+#[derive(Clone, Copy, Default, PartialEq, Eq)]
 pub struct State {
     pub body: Body,
     pub transfer: Transfer,
@@ -113,26 +115,11 @@ impl Body {
     fn fresh(p: Profile) -> Body
         ensures { result ≡ fresh_body p }
     {
-        let timers = Timers {
-            busy: Micros(0),
-            head: Micros(0),
-        };
-        let arm = Arm {
-            cylinder: Cylinder(0),
-            offset: 0,
-            lost: 0,
-        };
-        let sector = p.shape.sector;
         Body {
-            timers,
-            arm,
             latched: Latched(Latched::POWER_ON),
-            sector,
-            head: Head(0),
+            sector: p.shape.sector,
             motor: Body::UP,
-            reading: 0,
-            writing: 0,
-            standing: 0,
+            ..Body::blank()
         }
     }
 
@@ -140,26 +127,7 @@ impl Body {
     fn blank() -> Body
         ensures { result ≡ blank_body }
     {
-        let timers = Timers {
-            busy: Micros(0),
-            head: Micros(0),
-        };
-        let arm = Arm {
-            cylinder: Cylinder(0),
-            offset: 0,
-            lost: 0,
-        };
-        Body {
-            timers,
-            arm,
-            latched: Latched(0),
-            sector: SectorSize(0),
-            head: Head(0),
-            motor: 0,
-            reading: 0,
-            writing: 0,
-            standing: 0,
-        }
+        Body::default()
     }
 }
 
@@ -175,8 +143,6 @@ impl State {
     pub fn blank() -> State
         ensures { result ≡ blank_state }
     {
-        let body = Body::blank();
-        let transfer = Transfer::none();
-        State { body, transfer }
+        State::default()
     }
 }

@@ -42,16 +42,13 @@ fn standing_ok(standing: u32, l: Latched) -> bool
 pub fn kept(p: Profile, b: Body) -> bool
     ensures { result ≡ limits_b p b }
 {
-    let arm = b.arm;
-    let timers = b.timers;
-    let latched = b.latched;
-    arm_ok(p, arm)
-        & timers_ok(timers)
-        & latched_ok(latched)
+    arm_ok(p, b.arm)
+        & timers_ok(b.timers)
+        & latched_ok(b.latched)
         & pack_profile::valid::sector_ok(pack_profile::general::soft(p.general), b.sector.0)
         & (b.head.0 <= Body::LAST_HEAD)
-        & motor_ok(b.motor, timers.busy.0)
+        & motor_ok(b.motor, b.timers.busy.0)
         & (b.reading <= 1)
         & (b.writing <= 1)
-        & standing_ok(b.standing, latched)
+        & standing_ok(b.standing, b.latched)
 }

@@ -3,7 +3,7 @@ ghost use Rattle.std.specs.Prelude.{◌≡◌};
 ghost use Rattle.drive_rules.specs.Heads.{switched_of, head_change, met_of};
 
 use counts::Head;
-use drive_record::{Body, Latched, Outcome, Ruled, State, faults};
+use drive_record::{Body, Latched, Outcome, Ruled, State, Timers, faults};
 use pack_profile::{Profile, Times};
 
 // The drive takes the new head. The head timer starts where the switch is not at once. Reading ends.
@@ -11,15 +11,17 @@ use pack_profile::{Profile, Times};
 fn switched(p: Profile, b: Body, h: Head) -> Body
     ensures { result ≡ switched_of p h b }
 {
-    let mut e = b;
-    e.head = h;
-    e.reading = 0;
+    let e = Body {
+        head: h,
+        reading: 0,
+        ..b
+    };
     if p.times.switch.0 > Times::AT_ONCE {
-        let mut timers = b.timers;
-        let switch = p.times.switch;
-        timers.head = switch;
-        e.timers = timers;
-        return e;
+        let timers = Timers {
+            head: p.times.switch,
+            ..b.timers
+        };
+        return Body { timers, ..e };
     }
     e
 }
@@ -50,7 +52,7 @@ fn head_change(p: Profile, s: State, h: Head) -> Ruled
 pub fn meets(p: Profile, s: State, h: Head) -> Ruled
     ensures { result ≡ met_of p h s }
 {
-    if s.body.head.0 == h.0 {
+    if s.body.head == h {
         return Ruled {
             state: s,
             outcome: Outcome::Done,

@@ -8,10 +8,7 @@ use drive_record::{Body, Ruled, State, Timers, faults};
 fn less(a: Micros, us: Micros) -> Micros
     ensures { result ≡ less_of a us }
 {
-    if us.0 < a.0 {
-        return Micros(a.0 - us.0);
-    }
-    Micros(0)
+    Micros(a.0.saturating_sub(us.0))
 }
 
 // A starting motor is up when its busy timer reaches 0.
@@ -42,10 +39,11 @@ fn pass_body(b: Body, us: Micros) -> Body
         busy: less(busy, us),
         head: less(head, us),
     };
-    let mut e = b;
-    e.timers = timers;
-    e.motor = motor_after(b.motor, busy, us);
-    e
+    Body {
+        timers,
+        motor: motor_after(b.motor, busy, us),
+        ..b
+    }
 }
 
 // Time passes on a drive, and on its transfer, which may be dropped for it.

@@ -1,4 +1,5 @@
 // What C calls: the record and the file lent, the answer as a number.
+// Stays: the C interface. Events, slots, words, answers and refusals are numbers here, and what is lent, singly, is written in place.
 #![tactic(auto)]
 
 ghost use Rattle.std.specs.Prelude.{◌≡◌, length};
@@ -9,30 +10,18 @@ ghost use Rattle.c_word.specs.Words.{slot_word};
 ghost use Rattle.c_capture.specs.Capture.{lent_capture, capture_count};
 ghost use Rattle.capture_run.specs.Captured.{captured_file, captured_answers};
 ghost use Rattle.c_layout.specs.Marks.{marked_chain};
-ghost use Rattle.chain_apply.specs.Apply.{applied};
 ghost use Rattle.chain_step.specs.Step.{step_of, step_file};
 ghost use Rattle.esdi.specs.Call.{answer_code, lines_code};
 
-use c_pack::{Coded, CodedPack};
 use chain_record::Chain;
-use chain_step::Performed;
 use event::Answer;
 use pack_profile::Profile;
 use pack_read::Pack;
 
-// The record with what was decided put into it.
-fn changed(c: Chain, p: Performed) -> Chain
-    ensures { result ≡ applied c p.decision }
-{
-    let d = p.decision;
-    chain_apply::apply(c, d)
-}
-
 // The answer's number in the low byte, its value in the next.
-fn answer_code(p: Performed) -> u32
-    ensures { result ≡ answer_code p.answer }
+fn answer_code(answer: Answer) -> u32
+    ensures { result ≡ answer_code answer }
 {
-    let answer = p.answer;
     event::numbers::number(answer) as u32 + event::numbers::value(answer) as u32 * 256
 }
 
@@ -45,30 +34,6 @@ fn lines_code(c: Chain) -> u32
         return event::numbers::number(Answer::Malformed) as u32;
     }
     chain_decide::shown::line_sum(c) as u32 * 256
-}
-
-fn chain_of(t: Coded) -> Chain
-    ensures { result ≡ t.chain }
-{
-    t.chain
-}
-
-fn code_of(t: Coded) -> u64
-    ensures { result ≡ t.code }
-{
-    t.code
-}
-
-fn pack_of(p: CodedPack) -> Pack
-    ensures { result ≡ p.pack }
-{
-    p.pack
-}
-
-fn pack_code(p: CodedPack) -> u64
-    ensures { result ≡ p.code }
-{
-    p.code
 }
 
 // An event on the lent record and file. A decision is small: the record is copied in and stored back once.
@@ -86,19 +51,19 @@ pub extern "C" fn esdi_event<'a, 'b>(
 {
     let old = *c;
     let performed = chain_step::perform(old, file, kind, a, b);
-    *c = changed(old, performed);
-    answer_code(performed)
+    *c = chain_apply::apply(old, performed.decision);
+    answer_code(performed.answer)
 }
 
 // A chain fitted from a pack file into the lent record.
 #[unsafe(no_mangle)]
 pub extern "C" fn esdi_fit<'a, 'b>(c: &'a mut Chain, file: &'b [u8]) -> u64
-    ensures { (c.new ≡ (lent_fit c.old file.now).chain) × (result ≡ (lent_fit c.old file.now).code) }
+    ensures { (c.new ≡ (lent_fit c.old file.now).lent) × (result ≡ (lent_fit c.old file.now).code) }
 {
     let old = *c;
     let fitted = c_pack::fit::fit(old, file);
-    *c = chain_of(fitted);
-    code_of(fitted)
+    *c = fitted.lent;
+    fitted.code
 }
 
 // A capture on the lent record and file, an answer of two bytes for each of its events into the lent answers.
@@ -109,15 +74,15 @@ pub extern "C" fn esdi_capture<'a, 'b, 'c, 'd>(
     capture: &'c [u8],
     answers: &'d mut [u8],
 ) -> u64
-    ensures { (c.new ≡ (lent_capture c.old file.old capture.now (length answers.old)).chain)
+    ensures { (c.new ≡ (lent_capture c.old file.old capture.now (length answers.old)).lent)
         × ((result ≡ (lent_capture c.old file.old capture.now (length answers.old)).code)
         × ((file.new ≡ captured_file c.old file.old capture.now (length answers.old))
         × (answers.new ≡ captured_answers c.old file.old capture.now answers.old))) }
 {
     let old = *c;
     let ran = c_capture::capture(old, file, capture, answers);
-    *c = chain_of(ran);
-    code_of(ran)
+    *c = ran.lent;
+    ran.code
 }
 
 // How many answers a capture on the lent record will have.
@@ -132,12 +97,12 @@ pub extern "C" fn esdi_capture_count<'a, 'b>(c: &'a Chain, capture: &'b [u8]) ->
 // A word to a slot of the lent record.
 #[unsafe(no_mangle)]
 pub extern "C" fn esdi_word(c: &mut Chain, slot: u32, word: u32) -> u64
-    ensures { (c.new ≡ (slot_word c.old slot word).chain) × (result ≡ (slot_word c.old slot word).code) }
+    ensures { (c.new ≡ (slot_word c.old slot word).lent) × (result ≡ (slot_word c.old slot word).code) }
 {
     let old = *c;
     let sent = c_word::word(old, slot, word);
-    *c = chain_of(sent);
-    code_of(sent)
+    *c = sent.lent;
+    sent.code
 }
 
 // What the selected drive of the lent record shows.
@@ -168,13 +133,13 @@ pub extern "C" fn esdi_packs(file: &[u8]) -> u64
 // The pack in a slot of a pack file, into the lent one.
 #[unsafe(no_mangle)]
 pub extern "C" fn esdi_pack_at<'a, 'b>(pack: &'a mut Pack, file: &'b [u8], slot: u32) -> u64
-    ensures { (pack.new ≡ (pack_at_slot pack.old file.now slot).pack)
+    ensures { (pack.new ≡ (pack_at_slot pack.old file.now slot).lent)
         × (result ≡ (pack_at_slot pack.old file.now slot).code) }
 {
     let old = *pack;
     let found = c_pack::packs::pack_at(old, file, slot);
-    *pack = pack_of(found);
-    pack_code(found)
+    *pack = found.lent;
+    found.code
 }
 
 // A pack of the lent profile laid at the start of the lent part.

@@ -1,10 +1,8 @@
 -- "Handshake (000, 5.1.5 to 5.2.4)": what a request edge, and time, do to a transfer.
-use Rattle.std.specs.Prelude.{ℕ, ◌+◌, ◌*◌, ◌%◌, Bool, ◌&&◌, ◌||◌, not, ltb, eqb}
+use Rattle.std.specs.Prelude.{ℕ, ◌+◌, ◌*◌, ◌%◌, Bool, ◌&&◌, ◌||◌, not, ltb, eqb, Option, Some, None}
 use Rattle.counts.specs.declared.Micros.{Micros}
 use Rattle.std.specs.Prelude.{if◌then◌else◌}
 use Rattle.handshake.specs.declared.Transfer.{Transfer}
-use Rattle.handshake.specs.declared.Held.{Held}
-use Rattle.handshake.specs.declared.Held.TheVariants.{Keep, Drop}
 use Rattle.handshake.specs.declared.Fallen.{Fallen}
 use Rattle.handshake.specs.declared.Fallen.TheVariants as fallen
 use Rattle.handshake.specs.Transfer.{taking, responding, word_bits, patience, no_transfer, open_b}
@@ -40,12 +38,12 @@ put_out_of t = record {
 }
 
 -- "On a rise of request": gated, either gate on; calm, no timer of the unit runs
-unfoldable pub rise_of : Bool → Bool → ℕ → Transfer → Held
+unfoldable pub rise_of : Bool → Bool → ℕ → Transfer → Option Transfer
 rise_of gated calm level t =
-    if gated then Drop  -- "either gate on: bit 6, any open transfer dropped, no acknowledge"
-    else (if not (open_b t || calm) then Drop  -- "Else no transfer open and command complete false: bit 6, no acknowledge"
-    else (if eqb t.way responding then Keep (put_out_of t)  -- "or the next response bit is put out"
-    else Keep (taken_of level t)))  -- "Else the data line is taken"
+    if gated then None  -- "either gate on: bit 6, any open transfer dropped, no acknowledge"
+    else (if not (open_b t || calm) then None  -- "Else no transfer open and command complete false: bit 6, no acknowledge"
+    else (if eqb t.way responding then Some (put_out_of t)  -- "or the next response bit is put out"
+    else Some (taken_of level t)))  -- "Else the data line is taken"
 
 abbrev pub lowered_of : Transfer → Transfer
 lowered_of t = record { waiting = record { 0 = 0 }; bits = t.bits; response = t.response; way = t.way; count = t.count; acknowledge = 0 }
@@ -72,8 +70,8 @@ aged_by us t = record {
 unfoldable pub late_b : Micros → Transfer → Bool
 late_b us t = open_b t && ltb patience (t.waiting.0 + us.0)
 
-unfoldable pub wait_of : Micros → Transfer → Held
+unfoldable pub wait_of : Micros → Transfer → Option Transfer
 wait_of us t =
-    if late_b us t then Drop  -- "bit 6, dropped"
-    else (if open_b t then Keep (aged_by us t)
-    else Keep t)
+    if late_b us t then None  -- "bit 6, dropped"
+    else (if open_b t then Some (aged_by us t)
+    else Some t)

@@ -9,8 +9,9 @@ ghost use Rattle.handshake.specs.SoundTransfer.{idle_b, none_b, taking_b, respon
 use counts::Micros;
 
 // count: the bits taken, or put out. way: 0 none, 1 taking bits, 2 responding. acknowledge: the line's level.
+// Stays: way and acknowledge are numbers, since C lends the record.
 #[repr(C)]
-#[derive(Clone, Copy)]
+#[derive(Clone, Copy, Default, PartialEq, Eq)]
 pub struct Transfer {
     pub waiting: Micros,
     pub bits: u32,
@@ -20,14 +21,8 @@ pub struct Transfer {
     pub acknowledge: u8,
 }
 
-// What a rise or a wait does: the transfer goes on, or is dropped with bit 6.
-#[derive(Clone, Copy)]
-pub enum Held {
-    Keep(Transfer),
-    Drop,
-}
-
 // What a fall does: the transfer goes on, or its word is whole, to be carried out.
+// Stays: a Result or an Either is no plainer, since neither is an error, and Left and Right say less than the two names.
 #[derive(Clone, Copy)]
 pub enum Fallen {
     Keep(Transfer),
@@ -51,14 +46,7 @@ impl Transfer {
     pub fn none() -> Transfer
         ensures { result ≡ no_transfer }
     {
-        Transfer {
-            waiting: Micros(0),
-            bits: 0,
-            response: 0,
-            way: 0,
-            count: 0,
-            acknowledge: 0,
-        }
+        Transfer::default()
     }
 
     // A response, fixed, of which no bit is out yet.
@@ -66,12 +54,9 @@ impl Transfer {
         ensures { result ≡ responding_with response }
     {
         Transfer {
-            waiting: Micros(0),
-            bits: 0,
             response,
             way: Transfer::RESPONDING,
-            count: 0,
-            acknowledge: 0,
+            ..Transfer::none()
         }
     }
 }
@@ -86,10 +71,7 @@ pub fn is_open(t: Transfer) -> bool
 fn counted(count: u16) -> u16
     ensures { result ≡ next_bit count }
 {
-    if count < Transfer::BITS {
-        return count + 1;
-    }
-    Transfer::BITS
+    count.saturating_add(1).min(Transfer::BITS)
 }
 
 // The word so far with one bit more, a register of seventeen bits.
@@ -103,12 +85,11 @@ fn taken(t: Transfer, level: u8) -> Transfer
     ensures { result ≡ taken_of level t }
 {
     Transfer {
-        waiting: Micros(0),
         bits: shifted(t.bits, level),
-        response: 0,
         way: Transfer::TAKING,
         count: counted(t.count),
         acknowledge: 1,
+        ..Transfer::none()
     }
 }
 
@@ -116,43 +97,40 @@ fn put_out(t: Transfer) -> Transfer
     ensures { result ≡ put_out_of t }
 {
     Transfer {
-        waiting: Micros(0),
-        bits: 0,
-        response: t.response,
-        way: Transfer::RESPONDING,
         count: counted(t.count),
         acknowledge: 1,
+        ..Transfer::responding(t.response)
     }
 }
 
-// Request rises. gated: either gate is on. calm: the unit's timers are 0. level: the command data line's.
+// Request rises: the transfer goes on, or none does, and it is dropped with bit 6. gated: either gate is on. calm: the unit's timers are 0. level: the command data line's.
 #[tactic(auto, unfolding(crate::specs::Edges::rise_of))]
-pub fn rise(t: Transfer, gated: bool, calm: bool, level: u8) -> Held
+pub fn rise(t: Transfer, gated: bool, calm: bool, level: u8) -> Option<Transfer>
     ensures { result ≡ rise_of gated calm level t }
 {
     if gated {
-        return Held::Drop;
+        return None;
     }
     if t.way == 0 {
         if !calm {
-            return Held::Drop;
+            return None;
         }
-        return Held::Keep(taken(t, level));
+        return Some(taken(t, level));
     }
     if t.way == Transfer::RESPONDING {
-        return Held::Keep(put_out(t));
+        return Some(put_out(t));
     }
-    Held::Keep(taken(t, level))
+    Some(taken(t, level))
 }
 
 fn lowered(t: Transfer) -> Transfer
     ensures { result ≡ lowered_of t }
 {
-    let mut e = t;
-    let w = Micros(0);
-    e.waiting = w;
-    e.acknowledge = 0;
-    e
+    Transfer {
+        waiting: Micros(0),
+        acknowledge: 0,
+        ..t
+    }
 }
 
 // Request falls.
@@ -180,21 +158,21 @@ pub fn late(t: Transfer, us: Micros) -> bool
     is_open(t) & (t.waiting.0 as u64 + us.0 as u64 > Transfer::PATIENCE as u64)
 }
 
-// Microseconds pass.
+// Microseconds pass: the transfer goes on, or is dropped with bit 6.
 #[tactic(auto, unfolding(crate::specs::Edges::wait_of))]
-pub fn wait(t: Transfer, us: Micros) -> Held
+pub fn wait(t: Transfer, us: Micros) -> Option<Transfer>
     ensures { result ≡ wait_of us t }
 {
     if late(t, us) {
-        return Held::Drop;
+        return None;
     }
     if !is_open(t) {
-        return Held::Keep(t);
+        return Some(t);
     }
-    let mut e = t;
-    let n = Micros(t.waiting.0 + us.0);
-    e.waiting = n;
-    Held::Keep(e)
+    Some(Transfer {
+        waiting: Micros(t.waiting.0 + us.0),
+        ..t
+    })
 }
 
 // The bit that is out when count bits of the response have been put out, the highest first.
@@ -213,10 +191,7 @@ fn bit_out(response: u32, count: u16) -> u8
 pub fn status_line(t: Transfer) -> u8
     ensures { result ≡ status_line t }
 {
-    if t.way != Transfer::RESPONDING {
-        return 0;
-    }
-    if t.acknowledge != 1 {
+    if t.way != Transfer::RESPONDING || t.acknowledge != 1 {
         return 0;
     }
     bit_out(t.response, t.count)
@@ -225,7 +200,10 @@ pub fn status_line(t: Transfer) -> u8
 fn idle(t: Transfer) -> bool
     ensures { result ≡ idle_b t }
 {
-    (t.waiting.0 == 0) & (t.bits == 0) & (t.response == 0) & (t.count == 0) & (t.acknowledge == 0)
+    t == Transfer {
+        way: t.way,
+        ..Transfer::none()
+    }
 }
 
 // No transfer, and nothing of one left.

@@ -1,4 +1,5 @@
 -- Demand 3 over what is exported: bits by events are events of kind 6 and then one call of `slot_word`, which `esdi_word` runs.
+use Rattle.std.specs.Prelude.{Option, Some, None}
 use mathlib.Core.Path.{◌≡◌, refl, sym, ap, ◌∙◌}
 use mathlib.Core.Bool.{Bool, true, false, ◌||◌}
 use mathlib.Core.List.{List, [], ◌∷◌}
@@ -15,8 +16,6 @@ use Rattle.pack_read.specs.Packs.{fitted_b}
 use Rattle.drive_record.specs.declared.State.{State}
 use Rattle.drive_record.specs.Status.{complete_b}
 use Rattle.lines.specs.Lines.{line_tests}
-use Rattle.word_rules.specs.declared.Told.{Told}
-use Rattle.word_rules.specs.declared.Told.TheVariants.{Nothing, Word}
 use Rattle.word_rules.specs.Rules.{refuses_b, plain_of}
 use Rattle.chain_record.specs.declared.Chain.{Chain}
 use Rattle.chain_record.specs.Record.{slot_pack, look_of}
@@ -59,7 +58,7 @@ or_true : (a : Bool) → (a || true) ≡ true
 or_true true = refl
 or_true false = refl
 
-busy_silent : (p : Profile) (s : State) (n : ℕ) → complete_b s ≡ false → (plain_of p s n).told ≡ Nothing
+busy_silent : (p : Profile) (s : State) (n : ℕ) → complete_b s ≡ false → (plain_of p s n).told ≡ None
 unfolding plain_of
 busy_silent p s n h =
     let busy : refuses_b s ≡ true = rw h (or_true (eqb s.body.reading 1 || eqb s.body.writing 1)) in
@@ -93,9 +92,9 @@ module _ (w : Sending) (d : Lent) (fit : InTime w) (low : Each (λ us. us ≤ 65
     file : (at_once w d).now.file ≡ d.file
     response : (at_once w d).response ≡ response_bits w d (bench_answer w d).told
 
-  waited_is : (t : Told) → waited w d t ≡ passed (told_time w d t) c
-  waited_is Nothing = refl
-  waited_is (Word x) = refl
+  waited_is : (t : Option ℕ) → waited w d t ≡ passed (told_time w d t) c
+  waited_is None = refl
+  waited_is (Some x) = refl
 
   leaves_by : (t : Bool) → complete_b (drive_of (risen w d)) ≡ t → Leaves
   leaves_by true q =
@@ -125,12 +124,12 @@ module _ (w : Sending) (d : Lent) (fit : InTime w) (low : Each (λ us. us ≤ 65
     last_sound = ap (λ (x : Lent). chain_sound_b x.chain) (sym waits_is) ∙ (run_sound (pass_events us) d whole).formed
 
     given_by : slot_word last slot (word w d)
-        ≡ record { chain = state_in last slot (bench_answer w d).state; code = word_code (outcome_answer (bench_answer w d).outcome) (bench_answer w d).told }
+        ≡ record { lent = state_in last slot (bench_answer w d).state; code = word_code (outcome_answer (bench_answer w d).outcome) (bench_answer w d).told }
     unfolding slot_word word_at sent_of look_of applied decide_of pass_event
     given_by = rw (is_slot c r.sound slot fitted, le-ltb largest (word w d) (omega (arith, word_below)), last_sound, fitted)
 
     word_is : bench_word w d us
-        ≡ record { chain = state_in last slot (bench_answer w d).state; code = word_code (outcome_answer (bench_answer w d).outcome) (bench_answer w d).told }
+        ≡ record { lent = state_in last slot (bench_answer w d).state; code = word_code (outcome_answer (bench_answer w d).outcome) (bench_answer w d).told }
     word_is = ap (λ (x : Lent). slot_word x.chain slot (word w d)) waits_is ∙ given_by
 
     leaves : Leaves
@@ -139,17 +138,17 @@ module _ (w : Sending) (d : Lent) (fit : InTime w) (low : Each (λ us. us ≤ 65
     run_is : (run (events_sent w d) d).lent ≡ (at_once w d).now
     run_is = run_demand_3 w d fit low r long
 
-    left_is : (run (events_sent w d) d).lent.chain ≡ with_level leaves.level (bench_word w d us).chain
+    left_is : (run (events_sent w d) d).lent.chain ≡ with_level leaves.level (bench_word w d us).lent
     unfolding applied changed_of decide_of pass_event
     left_is =
         ap (λ (x : Lent). x.chain) run_is ∙ leaves.chain
-        ∙ ap (λ (x : Coded). with_level leaves.level x.chain) (sym word_is)
+        ∙ ap (λ (x : Coded Chain). with_level leaves.level x.lent) (sym word_is)
 
     -- any waits that events of kind 6 can pass, however they are split
     pub bench_demand_3 : SameAsBench w d us
     bench_demand_3 = record {
-      chain = left_is ∙ sym (ap (λ (x : Chain). with_level x.lines.command (bench_word w d us).chain) left_is);
+      chain = left_is ∙ sym (ap (λ (x : Chain). with_level x.lines.command (bench_word w d us).lent) left_is);
       file = ap (λ (x : Lent). x.file) run_is ∙ leaves.file ∙ ap (λ (x : Lent). x.file) (sym waits_is);
-      code = ap (λ (x : Coded). x.code) word_is;
+      code = ap (λ (x : Coded Chain). x.code) word_is;
       response = ap (λ (x : Exchanged Lent). x.response) (step_demand_3 w d fit low r long) ∙ leaves.response;
     }

@@ -39,10 +39,10 @@ module _ (c : Chain) (slot n : ℕ) where
 
   -- a refusal leaves the chain; else a sound chain has a fitted drive there, which takes the word
   either_left : (P : Chain → Type 0) → P c → (chain_sound_b c ≡ true → fitted_b (slot_pack c.packs slot) ≡ true → P (state_in c slot given))
-      → P (slot_word c slot n).chain
+      → P (slot_word c slot n).lent
   unfolding slot_word word_at sent_of
   either_left P same new =
-      let or = by_test (λ (x : Coded). P x.chain) in
+      let or = by_test (λ (x : Coded Chain). P x.lent) in
       or (not (slot_b slot)) _ _ (λ _. same) λ _.
       or (ltb largest n) _ _ (λ _. same) λ _.
       or (not (chain_sound_b c)) _ _ (λ _. same) λ formed.
@@ -55,14 +55,14 @@ module _ (c : Chain) (slot n : ℕ) where
       (plain_keeps _ (slot_valid c h slot f) c.lines _ (eqb c.lines.select slot) n (slot_sound c h slot f))
       (λ k g ne. slot_sound c h k g)
 
-  pub word_sound : chain_sound_b c ≡ true → chain_sound_b (slot_word c slot n).chain ≡ true
+  pub word_sound : chain_sound_b c ≡ true → chain_sound_b (slot_word c slot n).lent ≡ true
   word_sound h = either_left (λ (x : Chain). chain_sound_b x ≡ true) h put_sound
 
   put_only : OnlySlot slot c (state_in c slot given)
   unfolding applied changed_of
   put_only = record { packs = refl; lines = refl; long = refl; others = put_other c.states slot given }
 
-  pub word_only : OnlySlot slot c (slot_word c slot n).chain
+  pub word_only : OnlySlot slot c (slot_word c slot n).lent
   word_only =
       either_left (OnlySlot slot c) (record { packs = refl; lines = refl; long = refl; others = λ k ne. refl }) (λ h f. put_only)
 
@@ -73,5 +73,5 @@ module _ (c : Chain) (slot n : ℕ) where
       (λ ne. inl refl)
 
   -- request 8
-  pub slot_sized : sizes.AllSized c (slot_word c slot n).chain.states
+  pub slot_sized : sizes.AllSized c (slot_word c slot n).lent.states
   slot_sized = either_left (λ (x : Chain). sizes.AllSized c x.states) (λ k f. inl refl) put_sized

@@ -4,9 +4,10 @@ use mathlib.Core.List.{List, [], ◌∷◌}
 use Prim.Native.Nat.{ℕ, ◌≤◌}
 use lib.ListN.{length}
 use borrow.Author.Tests.{le-leb, eq-eqb}
+use Rattle.std.specs.Prelude.{Result, Ok}
+use Rattle.event.specs.declared.Event.{Event}
 use Rattle.event.specs.declared.Event.TheVariants.{Pass}
-use Rattle.event.specs.declared.Decoded.{Decoded}
-use Rattle.event.specs.declared.Decoded.TheVariants.{Is}
+use Rattle.event.specs.declared.Undecoded.{Undecoded}
 use Rattle.event.specs.Decode.{ranged, kind_row, decode_of}
 use Rattle.chain_decision.specs.Deeds.{file_after}
 use Rattle.chain_others.specs.Passing.{pass_event}
@@ -26,14 +27,14 @@ module _ (us : ℕ) (small : us ≤ 65_535) (d : Lent) (s : SoundOver d) where
   abbrev n : Numbers
   n = record { kind = 6; a = us; b = 0 }
 
-  decodes : decode_of 6 us 0 ≡ Is (Pass (record { 0 = us }))
+  decodes : decode_of 6 us 0 ≡ Ok (Pass (record { 0 = us }))
   unfolding decode_of kind_row ranged
   decodes = rw (le-leb us 65_535 small)
 
   file_kept : (lent_after n d).file ≡ d.file
   unfolding step_file judged_of allowed_of decide_of pass_event
   file_kept =
-      ap (λ (x : Decoded). file_after d.chain.packs (decoded_of d.chain (length d.file) x).deed d.file) decodes
+      ap (λ (x : Result Event Undecoded). file_after d.chain.packs (decoded_of d.chain (length d.file) x).deed d.file) decodes
       ∙ rw (s.formed, eq-eqb (length d.file) d.chain.length.0 s.long)
 
   one_passes : lent_after n d ≡ lent (passed us d.chain) d.file

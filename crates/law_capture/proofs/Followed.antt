@@ -6,13 +6,13 @@ use native.Mathlib.Omega.{arith}
 use lib.Dec.{eqb}
 use lib.ListN.{drop}
 use borrow.Author.Tests.{le-leb, eqb-true}
+use Rattle.std.specs.Prelude.{Ok}
 use Rattle.counts.specs.Bytes.{two}
 use Rattle.counts.proofs.Choice.{by_test}
 use Rattle.lines.specs.declared.Lines.{Lines}
 use Rattle.lines.specs.Lines.{with_select, with_heads, with_writegate, with_readgate, with_command, with_request}
 use Rattle.event.specs.declared.Event.{Event}
 use Rattle.event.specs.declared.Event.TheVariants.{Select, Heads, WriteGate, ReadGate, Data, Request, Pass}
-use Rattle.event.specs.declared.Decoded.TheVariants.{Is}
 use Rattle.event.specs.Numbers.{Numbers}
 use Rattle.event.specs.Decode.{ranged, level_line, kind_row, decode_of}
 use Rattle.chain_decide.specs.Levels.{lines_after}
@@ -42,32 +42,32 @@ sample_levels n = record { select = omega arith; heads = omega arith; readgate =
 
 -- each kind decodes
 module _ (a : ℕ) where
-  select_is : a ≤ 7 → decode_of 0 a 0 ≡ Is (Select a)
+  select_is : a ≤ 7 → decode_of 0 a 0 ≡ Ok (Select a)
   unfolding decode_of kind_row ranged
   select_is h = rw (le-leb a 7 h)
 
-  heads_is : a ≤ 15 → decode_of 1 a 0 ≡ Is (Heads (record { 0 = a }))
+  heads_is : a ≤ 15 → decode_of 1 a 0 ≡ Ok (Heads (record { 0 = a }))
   unfolding decode_of kind_row ranged
   heads_is h = rw (le-leb a 15 h)
 
   module _ (h : a ≤ 1) where
-    write_is : decode_of 2 a 0 ≡ Is (WriteGate a)
+    write_is : decode_of 2 a 0 ≡ Ok (WriteGate a)
     unfolding decode_of kind_row ranged level_line
     write_is = rw (le-leb a 1 h)
 
-    read_is : decode_of 3 a 0 ≡ Is (ReadGate a)
+    read_is : decode_of 3 a 0 ≡ Ok (ReadGate a)
     unfolding decode_of kind_row ranged level_line
     read_is = rw (le-leb a 1 h)
 
-    data_is : decode_of 4 a 0 ≡ Is (Data a)
+    data_is : decode_of 4 a 0 ≡ Ok (Data a)
     unfolding decode_of kind_row ranged level_line
     data_is = rw (le-leb a 1 h)
 
-    request_is : decode_of 5 a 0 ≡ Is (Request a)
+    request_is : decode_of 5 a 0 ≡ Ok (Request a)
     unfolding decode_of kind_row ranged level_line
     request_is = rw (le-leb a 1 h)
 
-  pass_is : a ≤ longest → decode_of 6 a 0 ≡ Is (Pass (record { 0 = a }))
+  pass_is : a ≤ longest → decode_of 6 a 0 ≡ Ok (Pass (record { 0 = a }))
   unfolding decode_of kind_row ranged
   pass_is h = rw (le-leb a 65_535 h)
 
@@ -76,7 +76,7 @@ abbrev lines_through : List Numbers → Lent → Lines
 lines_through events d = (lent_through events d).chain.lines
 
 -- a line that is taken to its new level, or has it, where the lines are known
-module _ (kind old a : ℕ) (e : Event) (q : decode_of kind a 0 ≡ Is e) (d : Lent) (s : SoundOver d) (l : Lines) (at : d.chain.lines ≡ l) (same : old ≡ a → lines_after e l ≡ l) where
+module _ (kind old a : ℕ) (e : Event) (q : decode_of kind a 0 ≡ Ok e) (d : Lent) (s : SoundOver d) (l : Lines) (at : d.chain.lines ≡ l) (same : old ≡ a → lines_after e l ≡ l) where
   one_line : lines_through (change_of kind old a) d ≡ lines_after e l
   unfolding change_of
   one_line =

@@ -7,8 +7,7 @@ use native.Mathlib.Omega.{arith}
 use borrow.Author.Tests.{eq-eqb}
 use lib.ListN.{length}
 use Rattle.counts.specs.Bytes.{Bytes}
-use Rattle.std.specs.Prelude.{if◌then◌else◌}
-use Rattle.pack_read.specs.declared.read.Reading.TheVariants.{Whole}
+use Rattle.std.specs.Prelude.{if◌then◌else◌, Result, Ok, Err, IsOk}
 use Rattle.pack_read.specs.Read.{read_all}
 use Rattle.handshake.specs.Edges.{late_b}
 use Rattle.drive_record.specs.declared.Outcome.{Outcome}
@@ -18,8 +17,8 @@ use Rattle.event.specs.declared.Answer.{Answer}
 use Rattle.event.specs.declared.Answer.TheVariants as answer
 use Rattle.event.specs.Answer.{answer_number}
 use Rattle.event.specs.declared.Event.{Event}
-use Rattle.event.specs.declared.Decoded.{Decoded}
-use Rattle.event.specs.declared.Decoded.TheVariants.{Is, Unknown, Range}
+use Rattle.event.specs.declared.Undecoded.{Undecoded}
+use Rattle.event.specs.declared.Undecoded.TheVariants.{Unknown, Range}
 use Rattle.event.specs.Decode.{decode_of}
 use Rattle.chain_record.specs.declared.Chain.{Chain}
 use Rattle.chain_decision.specs.declared.Decision.{Decision}
@@ -89,16 +88,16 @@ module _ (c : Chain) (file : List ℕ) where
   unfolding allowed_of
   allowed e s = rw (s.formed, eq-eqb (length file) c.length.0 s.long) (walk c P cases e)
 
-  decoded : (x : Decoded) → SoundOver (lent c file) → Answers (said_of c.packs (decoded_of c (length file) x).deed file)
-  decoded (Is e) s = allowed e s
-  decoded Unknown s = ((λ z. omega arith), (λ z. omega arith))
-  decoded Range s = ((λ z. omega arith), (λ z. omega arith))
+  decoded : (x : Result Event Undecoded) → SoundOver (lent c file) → Answers (said_of c.packs (decoded_of c (length file) x).deed file)
+  decoded (Ok e) s = allowed e s
+  decoded (Err Unknown) s = ((λ z. omega arith), (λ z. omega arith))
+  decoded (Err Range) s = ((λ z. omega arith), (λ z. omega arith))
 
   pub sound_answers : (kind a b : ℕ) → SoundOver (lent c file) → Answers (step_of kind a b c file).answer
   unfolding step_of judged_of
   sound_answers kind a b s = decoded (decode_of kind a b) s
 
 -- so the chain of a file that reads whole
-pub fitted_answers : (file : List ℕ) → Bytes file → (read_all file).answer ≡ Whole → (kind a b : ℕ) → Answers (step_of kind a b (fresh_fit file).chain file).answer
+pub fitted_answers : (file : List ℕ) → Bytes file → IsOk (read_all file) → (kind a b : ℕ) → Answers (step_of kind a b (fresh_fit file).chain file).answer
 fitted_answers file small w kind a b =
     sound_answers (fresh_fit file).chain file kind a b (record { formed = whole_sound file small w; long = sym (fitted_length file small w) })

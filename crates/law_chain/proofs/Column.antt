@@ -9,6 +9,7 @@ use borrow.Author.Tests.{eqb-true, not-false}
 use lib.Dec.{eqb}
 use lib.ListN.{length}
 use Rattle.counts.specs.declared.Position.{Position}
+use Rattle.std.specs.Prelude.{Ok}
 use Rattle.std.specs.Prelude.{if◌then◌else◌}
 use Rattle.counts.proofs.Choice.{by_test, either_way, never}
 use Rattle.drive_record.specs.declared.State.{State}
@@ -20,7 +21,6 @@ use Rattle.drive_rules.specs.DriveLeft.{left_of}
 use Rattle.event.specs.declared.Answer.TheVariants as answer
 use Rattle.event.specs.declared.Event.{Event}
 use Rattle.event.specs.declared.Event.TheVariants.{Select, Heads, WriteGate, ReadGate, Data, Request, Pass, Cell, Condition}
-use Rattle.event.specs.declared.Decoded.TheVariants.{Is}
 use Rattle.event.specs.Decode.{decode_of}
 use Rattle.lines.specs.declared.Lines.{Lines}
 use Rattle.chain_record.specs.declared.Chain.{Chain}
@@ -145,7 +145,7 @@ module _ (c : Chain) (file : List ℕ) where
       (λ n. decision_leaves c file (not-false _ s) (eqb-true _ _ (not-false _ n)) e))
 
   -- whatever the record and the file, of every event
-  pub answer_leaves : (kind a b : ℕ) (e : Event) → decode_of kind a b ≡ Is e
+  pub answer_leaves : (kind a b : ℕ) (e : Event) → decode_of kind a b ≡ Ok e
       → Leaves e c file (step_of kind a b c file).answer (step_of kind a b c file).chain (step_file kind a b c file)
   unfolding step_of step_file judged_of
   answer_leaves kind a b e q = rw q (allowed e)

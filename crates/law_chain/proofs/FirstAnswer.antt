@@ -8,6 +8,7 @@ use borrow.Author.Tests.{eqb-true, eqb-false, eq-eqb, ne_eqb, not-true, not-fals
 use lib.Dec.{eqb}
 use lib.ListN.{length, get_or}
 use Rattle.counts.specs.declared.Micros.{Micros}
+use Rattle.std.specs.Prelude.{Ok}
 use Rattle.std.specs.Prelude.{if◌then◌else◌}
 use Rattle.counts.proofs.Choice.{by_test}
 use Rattle.counts.proofs.Tests.{both}
@@ -26,7 +27,6 @@ use Rattle.event.specs.declared.Answer.TheVariants as answer
 use Rattle.event.specs.Answer.{answer_number}
 use Rattle.event.specs.declared.Event.{Event}
 use Rattle.event.specs.declared.Event.TheVariants.{Select, Heads, WriteGate, ReadGate, Data, Request, Pass, Cell, Condition}
-use Rattle.event.specs.declared.Decoded.TheVariants.{Is}
 use Rattle.event.specs.Decode.{decode_of}
 use Rattle.lines.specs.declared.Lines.{Lines}
 use Rattle.law_drive.proofs.SoundDrives.{unselected}
@@ -346,7 +346,7 @@ module _ (c : Chain) (file : List ℕ) (e : Event) where
       (λ n. said (not-false _ h) (decide_of c e).deed (decision_first c (not-false _ h) e)))
 
   -- whatever the record and the file, of every event
-  pub first_given : (kind a b : ℕ) → decode_of kind a b ≡ Is e
+  pub first_given : (kind a b : ℕ) → decode_of kind a b ≡ Ok e
       → answer_number (step_of kind a b c file).answer ≤ 5
       → (answer_number (step_of kind a b c file).answer ≡ 1 → ⊥) → (answer_number (step_of kind a b c file).answer ≡ 2 → ⊥)
       → answer_number (step_of kind a b c file).answer ≡ first_applies c e

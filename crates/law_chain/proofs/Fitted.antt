@@ -1,6 +1,6 @@
 -- The chain of a file is sound: of one that reads whole, with the file's length; of one that is refused, empty.
 use mathlib.Core.Path.{◌≡◌, refl, ap, ◌∙◌}
-use mathlib.Core.Bool.{Bool, true, false, not}
+use mathlib.Core.Bool.{Bool, true, false, not, false≢true}
 use mathlib.Core.List.{List, [], ◌∷◌}
 use Prim.Native.Nat.{ℕ, zero, suc, ◌+◌, ◌-◌, ◌≤◌, ◌<◌}
 use native.Mathlib.Omega.{arith}
@@ -10,7 +10,7 @@ use lib.Dec.{ltb, eqb}
 use lib.ListN.{length, take, set, replicate, length-set, length-append}
 use Rattle.pack_trailer.specs.Form.{trailer_length}
 use Rattle.counts.specs.declared.Place.{Place}
-use Rattle.std.specs.Prelude.{if◌then◌else◌}
+use Rattle.std.specs.Prelude.{if◌then◌else◌, Result, Ok, Err, IsOk, IsErr, is_ok, is_err, is_some, unwrap_or}
 use Rattle.counts.specs.Bytes.{Bytes}
 use Rattle.counts.specs.Slots.{map_with, all_with}
 use Rattle.counts.proofs.Choice.{either_way, guarded, never}
@@ -21,11 +21,7 @@ use Rattle.pack_profile.specs.Valid.{valid_b}
 use Rattle.pack_profile.proofs.FieldRanges.{ranges}
 use Rattle.pack_read.specs.declared.Pack.{Pack}
 use Rattle.pack_read.specs.declared.Refusal.TheVariants.{Large}
-use Rattle.pack_read.specs.declared.read.Packs.{Packs}
-use Rattle.pack_read.specs.declared.read.Last.{Last}
-use Rattle.pack_read.specs.declared.read.Last.TheVariants as last
-use Rattle.pack_read.specs.declared.read.Reading.{Reading}
-use Rattle.pack_read.specs.declared.read.Reading.TheVariants.{Whole, Refused}
+use Rattle.pack_read.specs.declared.read.Refused.{Refused}
 use Rattle.pack_read.specs.Packs.{longest_file, no_pack, no_packs, fitted_pack}
 use Rattle.pack_read.specs.Read.{last_pack, refused_at, and_in_front, read_back, read_all}
 use Rattle.pack_read.specs.File.{Contents, pack_bytes, file_of, first_slot, Standing, slots_of}
@@ -35,7 +31,7 @@ use Rattle.drive_record.specs.declared.State.{State}
 use Rattle.drive_record.specs.State.{fresh_of}
 use Rattle.drive_cable.specs.SoundDrive as unit
 use Rattle.law_drive.proofs.Keeps.{fresh_sound}
-use Rattle.chain_fit.specs.Fresh.{low_lines, fresh_slot, blank_states, end_of, fresh_fit}
+use Rattle.chain_fit.specs.Fresh.{low_lines, fresh_slot, blank_states, end_of, fitted_of, fresh_fit}
 use Rattle.chain_sound.specs.SoundChain.{placed_of, file_start, places_b, drive_b, chain_sound_b}
 use Rattle.chain_sound.proofs.SoundSlots.{placed_at}
 use Rattle.chain_step.proofs.Empty.{empty_chain, empty_sound}
@@ -154,7 +150,7 @@ drives [] states slot at len h one long = refl
 drives (p ∷ packs) [] slot at len h one long = absurd (omega arith)
 drives (p ∷ packs) (s ∷ states) slot at len h one long =
     join _ _ (fresh_drive p s (λ f. let g = placed_at (p ∷ packs) slot at len 0 h f in (g.valid, omega arith)))
-    (drives packs states (slot + 1) (placed_of p slot at).end len (guarded (placed_of p slot at).ok _ h).1 (omega arith) (omega arith))
+    (drives packs states (slot + 1) (unwrap_or (placed_of p slot at) at) len (guarded (is_some (placed_of p slot at)) _ h).1 (omega arith) (omega arith))
 
 made_places : (l : List ℕ) (slots : List Pack) → Made l 8 no_packs slots → length l ≤ longest_file → places_b slots 1 file_start (at_place (length l)) ≡ true
 made_places l slots m short =
@@ -166,60 +162,54 @@ made_drives l slots m short =
     let seven : length slots ≡ 7 = ap length m.table ∙ slots_long m.contents 0 no_packs in
     drives slots blank_states 1 file_start (at_place (length l)) (made_places l slots m short) (omega arith) (omega arith)
 
--- the chain of a file that reads whole: sound, and as long as the file
-module _ (file : List ℕ) (small : Bytes file) (w : (read_all file).answer ≡ Whole) where
-  from : Made file 8 no_packs (read_all file).slots
-  from = file_read file (read_all file).slots small (ap (λ (a : Reading). record { answer = a; slots = (read_all file).slots }) w)
-
-  short : length file ≤ longest_file
-  unfolding read_all
-  short = by (ltb longest_file (length file)) refl w
-    where
-      by : (t : Bool) → ltb longest_file (length file) ≡ t
-          → (if t then refused_at Large 0 else read_back (suc (length file)) file 8 no_packs).answer ≡ Whole → length file ≤ longest_file
-      by true q e = absurd (never (cc))
-      by false q e = ltb-false _ _ q
-
-  pub fitted_length : (fresh_fit file).chain.length.0 ≡ length file
-  unfolding fresh_fit end_of
-  fitted_length = rw (w, le-ltb longest_file (length file) short)
-
-  pub whole_sound : chain_sound_b (fresh_fit file).chain ≡ true
-  unfolding fresh_fit chain_sound_b end_of
-  whole_sound = simp (w, le-ltb longest_file (length file) short, made_places file (read_all file).slots from short, made_drives file (read_all file).slots from short)
-
--- a refused file gives no pack
-abbrev Empty : Packs → Type 0
-Empty r = (r.answer ≡ Whole → ⊥) → r.slots ≡ no_packs
-
-empty_last : (front : List ℕ → ℕ → List Pack → Packs) → ((l : List ℕ) (limit : ℕ) (found : List Pack) → Empty (front l limit found))
-    → (l : List ℕ) (found : List Pack) (r : Last) → Empty (and_in_front front l found r)
-empty_last front h l found (last.Refused why) ne = refl
-empty_last front h l found (last.Found s p) ne = h (take s.0 l) p.slot (set found (p.slot - 1) (fitted_pack s p)) ne
-
-empty_back : (k : ℕ) (l : List ℕ) (limit : ℕ) (found : List Pack) → Empty (read_back k l limit found)
-unfolding read_back
-empty_back zero l limit found = λ ne. absurd (ne refl)
-empty_back (suc k) l limit found =
-    either_way Empty (eqb (length l) 0) (λ ne. absurd (ne refl)) (empty_last (read_back k) (empty_back k) l found (last_pack l limit))
-
-empty_all : (l : List ℕ) → Empty (read_all l)
+-- a file that reads whole: its length
+read_short : (file : List ℕ) (packs : List Pack) → read_all file ≡ Ok packs → length file ≤ longest_file
 unfolding read_all
-empty_all l = either_way Empty (ltb longest_file (length l)) (λ ne. refl) (empty_back (suc (length l)) l 8 no_packs)
+read_short file packs e = by (ltb longest_file (length file)) refl e
+  where
+    by : (t : Bool) → ltb longest_file (length file) ≡ t
+        → (if t then refused_at Large 0 else read_back (suc (length file)) file 8 no_packs) ≡ Ok packs → length file ≤ longest_file
+    by true q c = absurd (never (cc))
+    by false q c = ltb-false _ _ q
 
-end_refused : (a : Reading) (n : ℕ) → (a ≡ Whole → ⊥) → end_of a n ≡ 0
-unfolding end_of
-end_refused Whole n ne = absurd (ne refl)
-end_refused (Refused why at) n ne = refl
+-- its chain: sound, and as long as the file
+module _ (file : List ℕ) (small : Bytes file) where
+  long_by : (r : Result (List Pack) Refused) → read_all file ≡ r → IsOk r → (fitted_of r (length file)).chain.length.0 ≡ length file
+  unfolding end_of
+  long_by (Ok packs) e w = rw (le-ltb longest_file (length file) (read_short file packs e))
+  long_by (Err refused) e w = absurd (false≢true w)
 
-pub refused_empty : (file : List ℕ) → ((read_all file).answer ≡ Whole → ⊥) → (fresh_fit file).chain ≡ empty_chain
-unfolding fresh_fit fresh_slot
-refused_empty file ne = rw (empty_all file ne, end_refused (read_all file).answer (length file) ne)
+  sound_by : (r : Result (List Pack) Refused) → read_all file ≡ r → IsOk r → chain_sound_b (fitted_of r (length file)).chain ≡ true
+  unfolding chain_sound_b end_of
+  sound_by (Ok packs) e w =
+      let short = read_short file packs e in
+      let from = file_read file packs small e in
+      simp (le-ltb longest_file (length file) short, made_places file packs from short, made_drives file packs from short)
+  sound_by (Err refused) e w = absurd (false≢true w)
+
+  module _ (w : IsOk (read_all file)) where
+    pub fitted_length : (fresh_fit file).chain.length.0 ≡ length file
+    unfolding fresh_fit
+    fitted_length = long_by (read_all file) refl w
+
+    pub whole_sound : chain_sound_b (fresh_fit file).chain ≡ true
+    unfolding fresh_fit
+    whole_sound = sound_by (read_all file) refl w
+
+-- the chain of a refused file is the empty one
+empty_by : (r : Result (List Pack) Refused) (n : ℕ) → IsErr r → (fitted_of r n).chain ≡ empty_chain
+unfolding fresh_slot
+empty_by (Ok packs) n e = absurd (false≢true e)
+empty_by (Err refused) n e = refl
+
+pub refused_empty : (file : List ℕ) → IsErr (read_all file) → (fresh_fit file).chain ≡ empty_chain
+unfolding fresh_fit
+refused_empty file e = empty_by (read_all file) (length file) e
 
 -- the chain of any file is sound
 pub fitted_sound : (file : List ℕ) → Bytes file → chain_sound_b (fresh_fit file).chain ≡ true
-fitted_sound file small = by (read_all file).answer refl
+fitted_sound file small = by (read_all file) refl
   where
-    by : (a : Reading) → (read_all file).answer ≡ a → chain_sound_b (fresh_fit file).chain ≡ true
-    by Whole e = whole_sound file small e
-    by (Refused why at) e = rw (refused_empty file (λ w. never (cc))) empty_sound
+    by : (r : Result (List Pack) Refused) → read_all file ≡ r → chain_sound_b (fresh_fit file).chain ≡ true
+    by (Ok packs) e = whole_sound file small (ap is_ok e)
+    by (Err refused) e = rw (refused_empty file (ap is_err e)) empty_sound

@@ -8,6 +8,7 @@ use borrow.Author.Tests.{leb-true, eqb-true, eqb-false, eq-eqb, ne_eqb, not-true
 use lib.Dec.{eqb}
 use lib.ListN.{length}
 use Rattle.counts.specs.declared.Micros.{Micros}
+use Rattle.std.specs.Prelude.{Result, Ok, Err}
 use Rattle.std.specs.Prelude.{if◌then◌else◌}
 use Rattle.counts.specs.Slots.{map_with}
 use Rattle.counts.proofs.Choice.{by_test}
@@ -20,8 +21,8 @@ use Rattle.drive_record.specs.State.{state_of}
 use Rattle.drive_record.specs.Faults as faults
 use Rattle.drive_gates.specs.Gates.{write_rises, read_rises, write_falls, read_falls}
 use Rattle.drive_rules.specs.DriveLeft.{left_of}
-use Rattle.event.specs.declared.Decoded.{Decoded}
-use Rattle.event.specs.declared.Decoded.TheVariants.{Is, Unknown, Range}
+use Rattle.event.specs.declared.Undecoded.{Undecoded}
+use Rattle.event.specs.declared.Undecoded.TheVariants.{Unknown, Range}
 use Rattle.event.specs.Decode.{decode_of}
 use Rattle.event.specs.declared.Answer.{Answer}
 use Rattle.event.specs.declared.Event.{Event}
@@ -260,7 +261,7 @@ module _ (c : Chain) (h : chain_sound_b c ≡ true) where
   unfolding step_of judged_of
   sound_kept kind a b file = by (decode_of kind a b) refl
     where
-      by : (x : Decoded) → decode_of kind a b ≡ x → Stays (decoded_of c (length file) x)
-      by (Is e) q = allowed e (length file) (decoded_range kind a b e q)
-      by Unknown q = refusal _
-      by Range q = refusal _
+      by : (x : Result Event Undecoded) → decode_of kind a b ≡ x → Stays (decoded_of c (length file) x)
+      by (Ok e) q = allowed e (length file) (decoded_range kind a b e q)
+      by (Err Unknown) q = refusal _
+      by (Err Range) q = refusal _

@@ -7,6 +7,7 @@ use native.Mathlib.Omega.{arith}
 use borrow.Author.Tests.{not-false}
 use lib.Dec.{eqb}
 use lib.ListN.{length}
+use Rattle.std.specs.Prelude.{Result, Ok, Err}
 use Rattle.counts.specs.declared.Micros.{Micros}
 use Rattle.counts.specs.Slots.{map_with}
 use Rattle.counts.proofs.Choice.{by_test}
@@ -21,8 +22,8 @@ use Rattle.word_rules.specs.Rules.{carry_of}
 use Rattle.law_drive.proofs.LastingRules.{lasting, pass_lasts, left_lasts, met_lasts, write_lasts, read_lasts, rise_lasts, fall_either}
 use Rattle.event.specs.declared.Event.{Event}
 use Rattle.event.specs.declared.Event.TheVariants.{Select, Heads, WriteGate, ReadGate, Data, Request, Pass, Cell, Condition}
-use Rattle.event.specs.declared.Decoded.{Decoded}
-use Rattle.event.specs.declared.Decoded.TheVariants.{Is, Unknown, Range}
+use Rattle.event.specs.declared.Undecoded.{Undecoded}
+use Rattle.event.specs.declared.Undecoded.TheVariants.{Unknown, Range}
 use Rattle.event.specs.Decode.{decode_of}
 use Rattle.lines.specs.declared.Lines.{Lines}
 use Rattle.chain_record.specs.declared.Chain.{Chain}
@@ -56,7 +57,7 @@ module _ (R : Profile → Body → Body → Type 0) (Q : ℕ → Event → Type 
 
   -- the event, as its numbers are decoded
   abbrev pub Known : ℕ → Numbers → Type 0
-  Known j n = (e : Event) → decode_of n.kind n.a n.b ≡ Is e → Q j e
+  Known j n = (e : Event) → decode_of n.kind n.a n.b ≡ Ok e → Q j e
 
   module _ (r : Leave) where
     same : (c : Chain) (j : ℕ) → Left c j (slot_state c.states j)
@@ -148,11 +149,11 @@ module _ (R : Profile → Body → Body → Type 0) (Q : ℕ → Event → Type 
           by_test Stays (not (eqb (length file) c.length.0)) _ _ (λ _. same c j) λ _.
           decision_leaves c (not-false (chain_sound_b c) s) e j f q
 
-      decoded : (x : Decoded) → ((e : Event) → x ≡ Is e → Q j e) → Stays (decoded_of c (length file) x)
+      decoded : (x : Result Event Undecoded) → ((e : Event) → x ≡ Ok e → Q j e) → Stays (decoded_of c (length file) x)
       unfolding applied changed_of
-      decoded (Is e) q = allowed e (q e refl)
-      decoded Unknown q = same c j
-      decoded Range q = same c j
+      decoded (Ok e) q = allowed e (q e refl)
+      decoded (Err Unknown) q = same c j
+      decoded (Err Range) q = same c j
 
       -- one event, whatever its numbers, the record and the file
       pub step_leaves : (n : Numbers) → Known j n → Left c j (slot_state (step_of n.kind n.a n.b c file).chain.states j)

@@ -1,15 +1,14 @@
 -- Which rules can be inhibited, and what an inhibited rule leaves.
+use Rattle.handshake.specs.declared.Transfer.{Transfer}
 use mathlib.Core.Path.{◌≡◌, refl}
 use mathlib.Core.Bool.{Bool, true, false, ◌||◌, not}
 use Prim.Native.Nat.{ℕ}
 use lib.Dec.{eqb}
 use Rattle.counts.specs.declared.Head.{Head}
 use Rattle.counts.specs.declared.Micros.{Micros}
-use Rattle.std.specs.Prelude.{if◌then◌else◌}
+use Rattle.std.specs.Prelude.{if◌then◌else◌, Option, Some, None, Result, Ok, Err}
 use Rattle.counts.proofs.Choice.{either_way, never}
 use Rattle.pack_profile.specs.declared.Profile.{Profile}
-use Rattle.handshake.specs.declared.Held.{Held}
-use Rattle.handshake.specs.declared.Held.TheVariants.{Keep, Drop}
 use Rattle.handshake.specs.declared.Fallen.{Fallen}
 use Rattle.handshake.specs.declared.Fallen.TheVariants as fallen
 use Rattle.handshake.specs.Transfer.{open_b}
@@ -26,7 +25,8 @@ use Rattle.drive_rules.specs.Heads.{head_change, met_of}
 use Rattle.drive_rules.specs.DriveLeft.{left_of}
 use Rattle.drive_rules.specs.Time.{pass_body, pass_drive}
 use Rattle.word_table.specs.declared.Effect.{Effect}
-use Rattle.word_table.specs.declared.Effect.TheVariants.{Fails, Status, Configuration, Does}
+use Rattle.word_table.specs.declared.Effect.TheVariants.{Status, Configuration, Does}
+use Rattle.word_table.specs.declared.WordFault.{WordFault}
 use Rattle.word_table.specs.Effect.{effect_of}
 use Rattle.word_rules.specs.Rules.{done_of, carry_of}
 use Rattle.lines.specs.declared.Lines.{Lines}
@@ -76,20 +76,20 @@ pub left_acts : (s : State) → Acts (left_of s)
 unfolding left_of
 left_acts s = either_way Acts (open_b s.transfer || eqb s.body.writing 1) fault done
 
-held_acts : (b : Body) (e : Held) → Acts (held_of b e)
-held_acts b (Keep t) h = done h
-held_acts b Drop h = fault h
+held_acts : (b : Body) (e : Option Transfer) → Acts (held_of b e)
+held_acts b (Some t) h = done h
+held_acts b None h = fault h
 
 pub pass_acts : (us : Micros) (s : State) → Acts (pass_drive us s)
 unfolding pass_drive
 pass_acts us s = held_acts (pass_body us s.body) (wait_of us s.transfer)
 
-effect_acts : (p : Profile) (b : Body) (x : Effect) → (done_of p b x).outcome ≡ Inhibited → ⊥
+effect_acts : (p : Profile) (b : Body) (x : Result Effect WordFault) → (done_of p b x).outcome ≡ Inhibited → ⊥
 unfolding done_of
-effect_acts p b (Fails value) h = fault h
-effect_acts p b Status h = done h
-effect_acts p b (Configuration modifier) h = done h
-effect_acts p b (Does act) h = done h
+effect_acts p b (Err which) h = fault h
+effect_acts p b (Ok Status) h = done h
+effect_acts p b (Ok (Configuration modifier)) h = done h
+effect_acts p b (Ok (Does act)) h = done h
 
 fallen_acts : (p : Profile) (b : Body) (e : Fallen) → Acts (fallen_of p b e)
 unfolding carry_of

@@ -4,12 +4,13 @@ use mathlib.Core.Bool.{Bool, true}
 use Prim.Native.Nat.{ℕ, ◌≤◌}
 use borrow.Author.Tests.{leb-true, le-leb}
 use lib.Dec.{ltb, leb, eqb}
+use Rattle.std.specs.Prelude.{Result, Ok, Err}
 use Rattle.counts.proofs.Choice.{by_test}
 use Rattle.counts.proofs.Tests.{both, each, all, within_both}
 use Rattle.event.specs.declared.Event.{Event}
 use Rattle.event.specs.declared.Event.TheVariants.{Select, Heads, WriteGate, ReadGate, Data, Request, Pass, Cell, Condition}
-use Rattle.event.specs.declared.Decoded.{Decoded}
-use Rattle.event.specs.declared.Decoded.TheVariants.{Is, Unknown, Range}
+use Rattle.event.specs.declared.Undecoded.{Undecoded}
+use Rattle.event.specs.declared.Undecoded.TheVariants.{Unknown, Range}
 use Rattle.counts.specs.Slots.{slot_b}
 use Rattle.event.specs.Operands.{is_position, is_byte, is_condition, stray_b}
 use Rattle.event.specs.Decode.{ranged, level_line, kind_row, decode_of}
@@ -29,10 +30,10 @@ InRange (Pass us) = us.0 ≤ 65_535
 InRange (Cell position byte) = (position.0 ≤ 65_535) × (byte ≤ 255)
 InRange (Condition slot which) = (1 ≤ slot) × (slot ≤ 7) × (1 ≤ which) × (which ≤ 4)
 
-abbrev Within : Decoded → Type 0
-Within (Is e) = InRange e
-Within Unknown = Unit
-Within Range = Unit
+abbrev Within : Result Event Undecoded → Type 0
+Within (Ok e) = InRange e
+Within (Err Unknown) = Unit
+Within (Err Range) = Unit
 
 good : (t : Bool) (e : Event) → (t ≡ true → InRange e) → Within (ranged t e)
 unfolding ranged
@@ -61,7 +62,7 @@ decoded : (kind a b : ℕ) → Within (decode_of kind a b)
 unfolding decode_of
 decoded kind a b = by_test Within (ltb 8 kind) _ _ (λ t. tt) (λ t. by_test Within (stray_b kind b) _ _ (λ t. tt) (λ t. row kind a b))
 
-pub decoded_range : (kind a b : ℕ) (e : Event) → decode_of kind a b ≡ Is e → InRange e
+pub decoded_range : (kind a b : ℕ) (e : Event) → decode_of kind a b ≡ Ok e → InRange e
 decoded_range kind a b e q = rw q at (decoded kind a b)
 
 pub lines_kept : (e : Event) (l : Lines) → InRange e → lines_b l ≡ true → lines_b (lines_after e l) ≡ true

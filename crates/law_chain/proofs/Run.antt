@@ -6,7 +6,7 @@ use lib.ListN.{length, set, length-set}
 use Rattle.counts.specs.declared.Place.{Place}
 use Rattle.counts.specs.Bytes.{Bytes}
 use Rattle.pack_read.specs.declared.Pack.{Pack}
-use Rattle.pack_read.specs.declared.read.Reading.TheVariants.{Whole}
+use Rattle.std.specs.Prelude.{IsOk}
 use Rattle.pack_read.specs.Read.{read_all}
 use Rattle.chain_record.specs.declared.Chain.{Chain}
 use Rattle.chain_decision.specs.declared.Deed.{Deed}
@@ -56,7 +56,7 @@ pub run_sound : (events : List Numbers) (d : Lent) → SoundOver d → SoundOver
 run_sound events d s = through_sound events d s
 
 -- so from any file that reads whole
-pub fitted_run : (events : List Numbers) (file : List ℕ) → Bytes file → (read_all file).answer ≡ Whole
+pub fitted_run : (events : List Numbers) (file : List ℕ) → Bytes file → IsOk (read_all file)
     → SoundOver (run events (lent (fresh_fit file).chain file)).lent
 fitted_run events file small w =
     run_sound events (lent (fresh_fit file).chain file) (record { formed = whole_sound file small w; long = sym (fitted_length file small w) })

@@ -6,14 +6,16 @@ use mathlib.Core.List.{List, [], ◌∷◌}
 use Prim.Native.Nat.{ℕ, ◌-◌}
 use native.Mathlib.Omega.{arith}
 use borrow.Author.Tests.{eqb-true}
-use lib.ListN.{get_or}
+use lib.ListN.{length, get_or}
 use Rattle.counts.specs.declared.SectorSize.{SectorSize}
 use Rattle.counts.specs.Slots.{map_with}
 use Rattle.counts.proofs.Slots.{map_at}
 use Rattle.counts.proofs.Tests.{within_both}
 use Rattle.pack_profile.specs.declared.Profile.{Profile}
 use Rattle.pack_read.specs.declared.Pack.{Pack}
-use Rattle.pack_read.specs.Packs.{no_pack, fitted_b}
+use Rattle.std.specs.Prelude.{Result, Ok, Err}
+use Rattle.pack_read.specs.declared.read.Refused.{Refused}
+use Rattle.pack_read.specs.Packs.{no_pack, no_packs, fitted_b}
 use Rattle.pack_read.specs.Read.{read_all}
 use Rattle.drive_record.specs.declared.Body.{Body}
 use Rattle.drive_record.specs.declared.State.{State}
@@ -25,7 +27,7 @@ use Rattle.chain_record.specs.declared.Chain.{Chain}
 use Rattle.chain_record.specs.Record.{slot_pack, slot_state}
 use Rattle.chain_decision.specs.Deeds.{Every}
 use Rattle.chain_sound.proofs.SoundSlots.{slot_of, pack_there, state_there}
-use Rattle.chain_fit.specs.Fresh.{fresh_slot, blank_states, fresh_fit}
+use Rattle.chain_fit.specs.Fresh.{fresh_slot, blank_states, fitted_of, fresh_fit}
 use Rattle.chain_step.specs.Step.{step_of}
 use Rattle.event.specs.Numbers.{Numbers}
 use Rattle.chain_step.specs.Run.{Lent, lent, run}
@@ -79,6 +81,12 @@ module _ (packs : List Pack) (k : ℕ) (f : fitted_b (slot_pack packs k) ≡ tru
       ∙ map_at fresh_slot packs blank_states (k - 1) no_pack blank_state (there packs (k - 1) listed) (omega arith)
       ∙ rw (← pack_there k packs slot, f)
 
+-- so in a fresh chain
+size_by : (r : Result (List Pack) Refused) (n k : ℕ) → fitted_b (slot_pack (fitted_of r n).chain.packs k) ≡ true
+    → (slot_state (fitted_of r n).chain.states k).body.sector ≡ (slot_pack (fitted_of r n).chain.packs k).profile.shape.sector
+size_by (Ok packs) n k f = ap (λ (s : State). s.body.sector) (fresh_state packs k f)
+size_by (Err refused) n k f = ap (λ (s : State). s.body.sector) (fresh_state no_packs k f)
+
 -- so from any file: the size in force is the pack's own, or greater than its gaps
 module _ (file : List ℕ) where
   abbrev fitted : Chain
@@ -87,7 +95,7 @@ module _ (file : List ℕ) where
   fresh_size : (k : ℕ) → fitted_b (slot_pack fitted.packs k) ≡ true
       → (slot_state fitted.states k).body.sector ≡ (slot_pack fitted.packs k).profile.shape.sector
   unfolding fresh_fit
-  fresh_size k f = ap (λ (s : State). s.body.sector) (fresh_state (read_all file).slots k f)
+  fresh_size k f = size_by (read_all file) (length file) k f
 
   pub fitted_sized : (events : List Numbers) (k : ℕ) → fitted_b (slot_pack fitted.packs k) ≡ true
       → Sized (slot_pack fitted.packs k).profile (slot_pack fitted.packs k).profile.shape.sector

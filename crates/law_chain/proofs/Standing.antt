@@ -7,6 +7,7 @@ use native.Mathlib.Omega.{arith}
 use borrow.Author.Tests.{eqb-true, eqb-false, eq-eqb}
 use lib.Dec.{eqb}
 use lib.ListN.{length, get_or}
+use Rattle.std.specs.Prelude.{Result, Ok}
 use Rattle.counts.specs.declared.SectorSize.{SectorSize}
 use Rattle.counts.specs.Slots.{slot_b}
 use Rattle.counts.proofs.Choice.{by_test}
@@ -22,8 +23,7 @@ use Rattle.word_rules.proofs.ControlZero.{control_zero, cleared}
 use Rattle.law_drive.proofs.LastingRules.{stands_on, stays_ended}
 use Rattle.event.specs.declared.Event.{Event}
 use Rattle.event.specs.declared.Event.TheVariants.{Condition}
-use Rattle.event.specs.declared.Decoded.{Decoded}
-use Rattle.event.specs.declared.Decoded.TheVariants.{Is}
+use Rattle.event.specs.declared.Undecoded.{Undecoded}
 use Rattle.event.specs.Operands.{is_condition}
 use Rattle.event.specs.Decode.{ranged, kind_row, decode_of}
 use Rattle.chain_record.specs.declared.Chain.{Chain}
@@ -51,7 +51,7 @@ standing_in c k = (slot_state c.states k).body.standing
 
 -- the event is this condition in that slot
 abbrev pub ConditionIn : ℕ → ℕ → Numbers → Type 0
-ConditionIn k which n = decode_of n.kind n.a n.b ≡ Is (Condition k which)
+ConditionIn k which n = decode_of n.kind n.a n.b ≡ Ok (Condition k which)
 
 -- the flag has a value, and keeps it through every condition of the slot but one
 module _ (v but : ℕ) where
@@ -73,7 +73,7 @@ module _ (v but : ℕ) where
     none_sets : (k : ℕ) (n : Numbers) → (ConditionIn k but n → ⊥) → Known Keeps NoneSets k n
     none_sets k n q e is which same b =
         let r : InRange (Condition k which) = rw same at (decoded_range n.kind n.a n.b e is) in
-        others which b r.2 r.3 (λ it. q (is ∙ ap Is (same ∙ ap (Condition k) it)))
+        others which b r.2 r.3 (λ it. q (is ∙ ap Ok (same ∙ ap (Condition k) it)))
 
     none_set : (k : ℕ) (events : List Numbers) → Every (λ (n : Numbers). ConditionIn k but n → ⊥) events → Every (Known Keeps NoneSets k) events
     none_set k [] q = tt
@@ -173,7 +173,7 @@ module _ (c : Chain) (file : List ℕ) (k : ℕ) (none : standing_in c k ≡ 0) 
 
   decoded : AsWas (decoded_of c (length file) (decode_of 8 k 4))
   unfolding decode_of kind_row ranged applied changed_of
-  decoded = by_test (λ (x : Decoded). AsWas (decoded_of c (length file) x)) (slot_b k && is_condition 4) _ _ (λ _. allowed) (λ _. (refl, refl))
+  decoded = by_test (λ (x : Result Event Undecoded). AsWas (decoded_of c (length file) x)) (slot_b k && is_condition 4) _ _ (λ _. allowed) (λ _. (refl, refl))
 
   -- on any chain and file
   pub nothing_ended : ((step_of 8 k 4 c file).chain ≡ c) × (step_file 8 k 4 c file ≡ file)

@@ -2,9 +2,9 @@
 use mathlib.Core.Path.{◌≡◌, ap, ◌∙◌}
 use lib.ListN.{length}
 use borrow.Author.Tests.{eq-eqb}
+use Rattle.std.specs.Prelude.{Result, Ok}
 use Rattle.event.specs.declared.Event.{Event}
-use Rattle.event.specs.declared.Decoded.{Decoded}
-use Rattle.event.specs.declared.Decoded.TheVariants.{Is}
+use Rattle.event.specs.declared.Undecoded.{Undecoded}
 use Rattle.event.specs.Decode.{decode_of}
 use Rattle.chain_apply.specs.Apply.{applied}
 use Rattle.chain_decide.specs.Decide.{decide_of}
@@ -16,11 +16,11 @@ use Rattle.law_chain.specs.SoundOver.{SoundOver}
 use Rattle.law_chain.specs.OnlyMet.{OnlyMet}
 use Rattle.law_chain.proofs.Meeting.{only_met}
 
-module _ (n : Numbers) (d : Lent) (e : Event) (q : decode_of n.kind n.a n.b ≡ Is e) (s : SoundOver d) where
+module _ (n : Numbers) (d : Lent) (e : Event) (q : decode_of n.kind n.a n.b ≡ Ok e) (s : SoundOver d) where
   pub step_decides : (lent_after n d).chain ≡ applied d.chain (decide_of d.chain e)
   unfolding step_of judged_of allowed_of
   step_decides =
-      ap (λ (x : Decoded). applied d.chain (decoded_of d.chain (length d.file) x)) q
+      ap (λ (x : Result Event Undecoded). applied d.chain (decoded_of d.chain (length d.file) x)) q
       ∙ rw (s.formed, eq-eqb (length d.file) d.chain.length.0 s.long)
 
   pub step_only : OnlyMet e d.chain (lent_after n d).chain

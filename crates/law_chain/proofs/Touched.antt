@@ -7,10 +7,11 @@ use lib.Dec.{eqb}
 use lib.ListN.{length, get_or, set}
 use lib.Seq.{get_or-set_other}
 use borrow.Author.Tests.{eqb-true, eqb-false, not-false}
+use Rattle.std.specs.Prelude.{Result, Ok, Err}
 use Rattle.counts.proofs.Choice.{by_test}
 use Rattle.event.specs.declared.Event.{Event}
-use Rattle.event.specs.declared.Decoded.{Decoded}
-use Rattle.event.specs.declared.Decoded.TheVariants.{Is, Unknown, Range}
+use Rattle.event.specs.declared.Undecoded.{Undecoded}
+use Rattle.event.specs.declared.Undecoded.TheVariants.{Unknown, Range}
 use Rattle.event.specs.Decode.{decode_of}
 use Rattle.chain_record.specs.declared.Chain.{Chain}
 use Rattle.chain_decision.specs.declared.Decision.{Decision}
@@ -43,10 +44,10 @@ module _ (c : Chain) (file : List ℕ) (i : ℕ) where
       by_test Changed (not (eqb (length file) c.length.0)) _ _ (λ w differs. absurd (differs refl)) λ w.
       put_there (Written c) (puts_of c.packs (decide_of c e).deed) file i (written_only c (not-false (chain_sound_b c) s) e)
 
-  decoded : (x : Decoded) → Changed (decoded_of c (length file) x)
-  decoded (Is e) = allowed e
-  decoded Unknown = λ differs. absurd (differs refl)
-  decoded Range = λ differs. absurd (differs refl)
+  decoded : (x : Result Event Undecoded) → Changed (decoded_of c (length file) x)
+  decoded (Ok e) = allowed e
+  decoded (Err Unknown) = λ differs. absurd (differs refl)
+  decoded (Err Range) = λ differs. absurd (differs refl)
 
   -- whatever the numbers, the record and the file
   pub changed_only : (kind a b : ℕ) → (get_or (step_file kind a b c file) i 0 ≡ get_or file i 0 → ⊥) → Written c i

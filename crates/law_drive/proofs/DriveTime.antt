@@ -7,11 +7,10 @@ use native.Mathlib.Omega.{arith}
 use lib.Dec.{ltb, leb, eqb}
 use borrow.Author.Tests.{ltb-true, ltb-false, leb-true, leb-false, eqb-true, le-leb, lt-leb, lt-ltb, le-ltb, eq-eqb, not-false}
 use Rattle.counts.specs.declared.Micros.{Micros}
-use Rattle.std.specs.Prelude.{if◌then◌else◌}
+use Rattle.std.specs.Prelude.{if◌then◌else◌, Some, None}
 use Rattle.counts.proofs.Tests.{both}
 use Rattle.handshake.specs.declared.Transfer.{Transfer}
 use Rattle.handshake.specs.Transfer.{patience, no_transfer, open_b}
-use Rattle.handshake.specs.declared.Held.TheVariants.{Keep, Drop}
 use Rattle.handshake.specs.Edges.{aged_by, late_b, wait_of}
 use Rattle.drive_record.specs.declared.Body.{Body}
 use Rattle.drive_record.specs.declared.State.{State}
@@ -116,15 +115,15 @@ unfolding pass_body latch_of
 latch_later us value d = refl
 
 -- what time does to a transfer, case by case
-closed_waits : (us : Micros) (t : Transfer) → eqb t.way 0 ≡ true → wait_of us t ≡ Keep t
+closed_waits : (us : Micros) (t : Transfer) → eqb t.way 0 ≡ true → wait_of us t ≡ Some t
 unfolding wait_of late_b
 closed_waits us t z = rw z
 
-late_drops : (us : Micros) (t : Transfer) → eqb t.way 0 ≡ false → patience < t.waiting.0 + us.0 → wait_of us t ≡ Drop
+late_drops : (us : Micros) (t : Transfer) → eqb t.way 0 ≡ false → patience < t.waiting.0 + us.0 → wait_of us t ≡ None
 unfolding wait_of late_b
 late_drops us t z h = rw (z, lt-ltb patience (t.waiting.0 + us.0) h)
 
-open_waits : (us : Micros) (t : Transfer) → eqb t.way 0 ≡ false → t.waiting.0 + us.0 ≤ patience → wait_of us t ≡ Keep (aged_by us t)
+open_waits : (us : Micros) (t : Transfer) → eqb t.way 0 ≡ false → t.waiting.0 + us.0 ≤ patience → wait_of us t ≡ Some (aged_by us t)
 unfolding wait_of late_b
 open_waits us t z h = rw (z, le-ltb patience (t.waiting.0 + us.0) h)
 
@@ -148,7 +147,7 @@ unfolding pass_drive wait_of
 pass_outcome us s = by (late_b us s.transfer) (open_b s.transfer)
   where
     by : (late runs : Bool)
-        → (held_of (pass_body us s.body) (if late then Drop else (if runs then Keep (aged_by us s.transfer) else Keep s.transfer))).outcome
+        → (held_of (pass_body us s.body) (if late then None else (if runs then Some (aged_by us s.transfer) else Some s.transfer))).outcome
         ≡ (if late then Fault else Done)
     by true runs = refl
     by false true = refl

@@ -1,4 +1,6 @@
 -- What lasts on a drive: the sector size in force, which a word alone sets, and whether a write fault stands, which conditions alone decide.
+use Rattle.handshake.specs.declared.Transfer.{Transfer}
+use Rattle.std.specs.Prelude.{Option, Some, None}
 use mathlib.Core.Path.{◌≡◌, refl}
 use mathlib.Core.Bool.{◌||◌, not}
 use Prim.Native.Nat.{ℕ, ◌≤◌}
@@ -11,8 +13,6 @@ use Rattle.counts.specs.declared.SectorSize.{SectorSize}
 use Rattle.counts.proofs.Choice.{by_test, either_way}
 use Rattle.pack_profile.specs.declared.Profile.{Profile}
 use Rattle.pack_profile.specs.General.{at_once}
-use Rattle.handshake.specs.declared.Held.{Held}
-use Rattle.handshake.specs.declared.Held.TheVariants as held
 use Rattle.handshake.specs.declared.Fallen.{Fallen}
 use Rattle.handshake.specs.declared.Fallen.TheVariants as fallen
 use Rattle.handshake.specs.Transfer.{open_b}
@@ -39,10 +39,10 @@ Same b e = lasting e ≡ lasting b
 abbrev After : State → Ruled → Type 0
 After s r = Same s.body r.state.body
 
-held_lasts : (b : Body) (h : Held) → Same b (held_of b h).state.body
+held_lasts : (b : Body) (h : Option Transfer) → Same b (held_of b h).state.body
 unfolding latch_of
-held_lasts b (held.Keep t) = refl
-held_lasts b held.Drop = refl
+held_lasts b (Some t) = refl
+held_lasts b None = refl
 
 pub pass_lasts : (us : Micros) (s : State) → After s (pass_drive us s)
 unfolding pass_drive pass_body

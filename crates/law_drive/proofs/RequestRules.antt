@@ -1,4 +1,6 @@
 -- Request's edges keep a sound drive sound.
+use Rattle.handshake.specs.declared.Transfer.{Transfer}
+use Rattle.std.specs.Prelude.{Option, Some, None}
 use mathlib.Core.Path.{◌≡◌, refl, ap, ◌∙◌}
 use mathlib.Core.Bool.{true, false, not, ◌||◌}
 use Prim.Native.Nat.{ℕ, ◌<◌}
@@ -10,7 +12,6 @@ use Rattle.counts.proofs.Tests.{both, each, all}
 use Rattle.counts.proofs.Choice.{by_test}
 use Rattle.pack_profile.specs.declared.Profile.{Profile}
 use Rattle.pack_profile.specs.Valid.{valid_b}
-use Rattle.handshake.specs.declared.Held.{Held}
 use Rattle.handshake.specs.declared.Fallen.{Fallen}
 use Rattle.handshake.specs.Transfer.{taking, responding, word_bits, no_transfer, responding_with, open_b}
 use Rattle.handshake.specs.Edges.{taken_of, put_out_of, rise_of, lowered_of, fall_of}
@@ -22,8 +23,6 @@ use Rattle.drive_gates.specs.Gates.{usable_tests, usable_b}
 use Rattle.drive_record.specs.Faults.{latch_of, dropped_of, held_of}
 use Rattle.drive_record.proofs.WithinLimits.{parts, whole}
 use Rattle.drive_gates.proofs.MayReadOrWrite.{usable}
-use Rattle.word_rules.specs.declared.Told.{Told}
-use Rattle.word_rules.specs.declared.Told.TheVariants.{Nothing, Word}
 use Rattle.word_rules.specs.Rules.{carry_of}
 use Rattle.word_rules.proofs.WordLaws.{told_reply, word_leaves}
 use Rattle.word_rules.proofs.WordLimits.{limits_kept}
@@ -45,9 +44,9 @@ unfolding complete_b
 runs_incomplete s h = rw (ne_eqb s.transfer.way 0 h)
 
 -- what stands after a word
-after_left : (c : Told) → ((r : ℕ) → c ≡ Word r → r < 131_072) → left_b 0 (after_word c) ≡ true
-after_left Nothing h = none_left 0 no_transfer refl
-after_left (Word r) h =
+after_left : (c : Option ℕ) → ((r : ℕ) → c ≡ Some r → r < 131_072) → left_b 0 (after_word c) ≡ true
+after_left None h = none_left 0 no_transfer refl
+after_left (Some r) h =
     giving_left 0 (responding_with r) refl (record {
       waiting = omega arith;
       acknowledge = refl;
@@ -90,7 +89,7 @@ module _ (p : Profile) (v : valid_b p ≡ true) (l : Lines) (s : State) where
       let m = with_request 1 l in
       let drops = dropped_sound sound in
       let left = rise_left l.command s.transfer (leb-true _ _ (each (line_tests l) k).1.1.1.1.0) (rw low at f.left) in
-      let or = by_test (λ (e : Held). drive_sound_b p m true (held_of s.body e).state ≡ true) in
+      let or = by_test (λ (e : Option Transfer). drive_sound_b p m true (held_of s.body e).state ≡ true) in
       or (gated_b l) _ _ (λ _. drops) λ off.
       let e = both_off (eqb l.writegate 1) (eqb l.readgate 1) off in
       let shut = write_gate_off p l s f (eqb-false _ _ e.0) in

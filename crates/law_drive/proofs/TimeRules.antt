@@ -1,4 +1,6 @@
 -- Time keeps a sound drive sound.
+use Rattle.handshake.specs.declared.Transfer.{Transfer}
+use Rattle.std.specs.Prelude.{Option}
 use mathlib.Core.Path.{◌≡◌, refl}
 use mathlib.Core.Bool.{Bool, true, false}
 use Prim.Native.Nat.{◌≤◌}
@@ -10,7 +12,6 @@ use Rattle.counts.proofs.Tests.{both}
 use Rattle.counts.proofs.Choice.{by_test}
 use Rattle.pack_profile.specs.declared.Profile.{Profile}
 use Rattle.pack_profile.specs.Valid.{valid_b}
-use Rattle.handshake.specs.declared.Held.{Held}
 use Rattle.handshake.specs.Transfer.{patience, no_transfer, open_b}
 use Rattle.handshake.specs.Edges.{aged_by, late_b, wait_of}
 use Rattle.handshake.specs.SoundTransfer.{idle_b}
@@ -40,7 +41,7 @@ module _ (p : Profile) (v : valid_b p ≡ true) (l : Lines) (s : State) where
       let q = pass_limits p s.body (sound_parts p l true s sound) us in
       let n = not_complete p l s f busy in
       let b = pass_body us s.body in
-      let or = by_test (λ (e : Held). drive_sound_b p l true (held_of b e).state ≡ true) in
+      let or = by_test (λ (e : Option Transfer). drive_sound_b p l true (held_of b e).state ≡ true) in
       or (late_b us s.transfer) _ _
       (λ late. neither p l (dropped_of b) (latch_limits p b q 6 (omega arith) refl) f.head (none_left l.request no_transfer refl) refl n.1)
       λ short.

@@ -4,9 +4,8 @@ use native.Mathlib.Omega.{arith}
 use mathlib.Core.Path.{◌≡◌, refl, ap, ◌∙◌}
 use mathlib.Core.Bool.{Bool, true, false}
 use mathlib.Core.List.{List, [], ◌∷◌}
-use mathlib.Core.Option.{Option, none, some}
 use lib.ListN.{length}
-use Rattle.std.specs.Prelude.{if◌then◌else◌}
+use Rattle.std.specs.Prelude.{if◌then◌else◌, Option, Some, None}
 use Rattle.handshake.specs.Transfer.{no_transfer}
 use Rattle.event.specs.declared.Answer.TheVariants.{Taken, Fault}
 use Rattle.event.specs.Answer.{answer_number}
@@ -78,11 +77,11 @@ module _ {B : Type 0} (R : Rules B) (L : Laws R) (w : Sending) (b : B) (l : ℕ)
     answered : (t : Option ℕ) → out.told ≡ t
         → replies (unit R) w.gaps (going (wired out.body (unit_after_word t) last 0 (0 + time)) (unit_fall_answer out ∷ zeros (0 + count) []))
         ≡ done w l out t
-    answered none p =
+    answered None p =
         let e : 0 + time ≡ time = omega arith in
         let n : 0 + count ≡ count = omega arith in
-        λ i. exchanged (going (rests out.body last (e i)) (unit_fall_answer out ∷ zeros (n i) [])) none
-    answered (some r) p =
+        λ i. exchanged (going (rests out.body last (e i)) (unit_fall_answer out ∷ zeros (n i) [])) None
+    answered (Some r) p =
         let calm = L.told_calm (sent_word l w) r b₁ q p in
         let log : List ℕ = unit_fall_answer out ∷ zeros (0 + count) [] in
         let e : 0 + time + fetch_time w.gaps ≡ time + fetch_time w.gaps = omega arith in
@@ -90,11 +89,11 @@ module _ {B : Type 0} (R : Rules B) (L : Laws R) (w : Sending) (b : B) (l : ℕ)
         let m : 0 + fetch_count w.gaps ≡ fetch_count w.gaps = omega arith in
         (λ i.
         exchanged (fetched R L out.body calm r log w.gaps 0 last (0 + time) 0 (omega (arith, fit.wanted)) fit.gaps i)
-        (some (seen R L out.body calm r log w.gaps 0 last (0 + time) 0 (omega (arith, fit.wanted)) fit.gaps i)))
+        (Some (seen R L out.body calm r log w.gaps 0 last (0 + time) 0 (omega (arith, fit.wanted)) fit.gaps i)))
         ∙ (λ i.
         exchanged
         (going (rests out.body (fetch_level last w.gaps) (e i)) (zeros (m i) (unit_fall_answer out ∷ zeros (n i) [])))
-        (some (bits_of (fit.wanted i) r)))
+        (Some (bits_of (fit.wanted i) r)))
 
     taken : exchanges (unit R) w (rests b l 0) ≡ carries w l out
     taken = all_sent ∙ answered out.told refl

@@ -3,8 +3,7 @@ use Prim.Native.Nat.{ℕ}
 use mathlib.Core.Path.{◌≡◌, refl, sym, ap, ap₂}
 use mathlib.Core.Bool.{Bool, true, false}
 use mathlib.Core.List.{List, [], ◌∷◌}
-use mathlib.Core.Option.{Option, none, some}
-use Rattle.std.specs.Prelude.{if◌then◌else◌}
+use Rattle.std.specs.Prelude.{if◌then◌else◌, Option, Some, None}
 use Rattle.law_exchange.specs.Host.{Signal, level, ask, micros, Cable, Still, waits, sets, Bit, Gap, Sending, high, Going, Exchanged, going, exchanged, sends, goes, raises, lowers, sends_all, puts_up, fetches, sees, replies, goes_on, exchanges}
 use Rattle.law_exchange.specs.Waits.{Each, EachOfBits, EachOfGaps, EachWait}
 
@@ -75,14 +74,14 @@ module _ {S T : Type 0} (C : Cable S) (D : Cable T) (Like : S → T → Type 0) 
   replies_like : (gs : List Gap) (g : Going S) (h : Going T) → EachOfGaps P gs → Along g h → Ended Like (replies C gs g) (replies D gs h)
   replies_like gs g h f l =
       either (C.responds g.now) (D.responds h.now) _ _ _ _ (A.responds g.now h.now l.0)
-      (ended (fetches C gs g) (fetches D gs h) _ _ (fetches_like gs g h f l) (ap (λ (bits : List ℕ). some bits) (sees_like gs g h f l)))
-      (ended g h none none l refl)
+      (ended (fetches C gs g) (fetches D gs h) _ _ (fetches_like gs g h f l) (ap (λ (bits : List ℕ). Some bits) (sees_like gs g h f l)))
+      (ended g h None None l refl)
 
   goes_like : (w : Sending) (g : Going S) (h : Going T) → EachWait P w → Along g h → Ended Like (goes_on C w g) (goes_on D w h)
   goes_like w g h f l =
       either (C.acknowledged g.now) (D.acknowledged h.now) _ _ _ _ (A.acknowledged g.now h.now l.0)
       (replies_like w.gaps _ _ f.1 (all_like w.more _ _ f.0.2 (lowers_like w.first.up g h f.0.1 l)))
-      (ended _ _ none none (sends_like (ask 0) g h (A.edges false) l) refl)
+      (ended _ _ None None (sends_like (ask 0) g h (A.edges false) l) refl)
 
   pub exchanges_like : (w : Sending) (s : S) (t : T) → EachWait P w → Like s t → Ended Like (exchanges C w s) (exchanges D w t)
   exchanges_like w s t f l =

@@ -1,4 +1,5 @@
 -- A stretch between two edges: a unit with no transfer open lives on, and one that is calm with a transfer open only counts the time.
+use Rattle.std.specs.Prelude.{Some}
 use Prim.Native.Nat.{ℕ, suc, ◌+◌, ◌≤◌}
 use native.Mathlib.Omega.{arith}
 use mathlib.Core.Path.{◌≡◌, ap, ◌∙◌}
@@ -6,7 +7,6 @@ use mathlib.Core.Bool.{true}
 use mathlib.Core.List.{List, [], ◌∷◌}
 use lib.ListN.{length}
 use Rattle.handshake.specs.declared.Transfer.{Transfer}
-use Rattle.handshake.specs.declared.Held.TheVariants.{Keep}
 use Rattle.handshake.specs.Transfer.{patience, no_transfer}
 use Rattle.handshake.specs.Edges.{wait_of}
 use Rattle.event.specs.declared.Answer.TheVariants.{Taken}
@@ -43,7 +43,7 @@ module _ {B : Type 0} (R : Rules B) (L : Laws R) where
       ∙ recount (R.pass (time_of xs) b) no_transfer (level_of (high x) xs) q log _ _ (suc n + length xs) (n + suc (length xs)) (omega arith) (omega arith)
 
   -- a transfer open, told by the microseconds it has waited
-  module _ (open_at : ℕ → Transfer) (ages : (w us : ℕ) → w + us ≤ patience → wait_of (record { 0 = us }) (open_at w) ≡ Keep (open_at (w + us))) where
+  module _ (open_at : ℕ → Transfer) (ages : (w us : ℕ) → w + us ≤ patience → wait_of (record { 0 = us }) (open_at w) ≡ Some (open_at (w + us))) where
     one_wait : (us w : ℕ) (b : B) (c q e : ℕ) (log : List ℕ) → R.calm b ≡ true → w + us ≤ patience
         → sends (unit R) (micros us) (going (wired b (open_at w) c q e) log) ≡ going (wired b (open_at (w + us)) c q (e + us)) (answer_number Taken ∷ log)
     one_wait us w b c q e log k h = rw (ages w us h, L.pass_calm us b k)

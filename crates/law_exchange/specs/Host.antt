@@ -1,6 +1,5 @@
 -- The host: what it sends, when it waits, and what it looks at.
-use Rattle.std.specs.Prelude.{ℕ, Bool, true, false, List, [], ◌∷◌}
-use Rattle.std.proofs.Math.Option.{Option, none, some}
+use Rattle.std.specs.Prelude.{ℕ, Bool, true, false, List, [], ◌∷◌, Option, Some, None}
 use Rattle.std.specs.Prelude.{if◌then◌else◌}
 
 -- what it does on the cable: kind 4 "command data", kind 5 "transfer request", kind 6 "microseconds pass"
@@ -94,13 +93,13 @@ module _ {S : Type 0} (C : Cable S) where
 
   -- after the 17th fall it fetches where a response is open
   abbrev pub replies : List Gap → Going S → Exchanged S
-  replies gs g = if C.responds g.now then exchanged (fetches gs g) (some (sees gs g)) else exchanged g none
+  replies gs g = if C.responds g.now then exchanged (fetches gs g) (Some (sees gs g)) else exchanged g None
 
   -- the first bit is up: without an acknowledge it "lowers request at once and ends"
   abbrev pub goes_on : Sending → Going S → Exchanged S
   goes_on w g =
       if C.acknowledged g.now then replies w.gaps (sends_all w.more (lowers w.first.up g))
-      else exchanged (sends (ask 0) g) none
+      else exchanged (sends (ask 0) g) None
 
   abbrev pub exchanges : Sending → S → Exchanged S
   exchanges w s = goes_on w (raises w.first.low (going s []))

@@ -1,10 +1,7 @@
 -- One unit on the cable: its transfer goes by the handshake's rules, and of the rest of it four operations are known.
-use Rattle.std.specs.Prelude.{ℕ, ◌+◌, Bool, false, eqb}
-use Rattle.std.proofs.Math.Option.{Option, none, some}
+use Rattle.std.specs.Prelude.{ℕ, ◌+◌, Bool, false, eqb, Option, Some, None}
 use Rattle.std.specs.Prelude.{if◌then◌else◌}
 use Rattle.handshake.specs.declared.Transfer.{Transfer}
-use Rattle.handshake.specs.declared.Held.{Held}
-use Rattle.handshake.specs.declared.Held.TheVariants.{Keep, Drop}
 use Rattle.handshake.specs.declared.Fallen.{Fallen}
 use Rattle.handshake.specs.declared.Fallen.TheVariants as fallen
 use Rattle.handshake.specs.Transfer.{responding, no_transfer, responding_with, status_line}
@@ -45,8 +42,8 @@ wired b t command request elapsed = record { body = b; transfer = t; command = c
 
 -- "after the 17th bit in, the word is carried out and any response is fixed"
 abbrev pub unit_after_word : Option ℕ → Transfer
-unit_after_word none = no_transfer
-unit_after_word (some r) = responding_with r
+unit_after_word None = no_transfer
+unit_after_word (Some r) = responding_with r
 
 -- "5 a fault rule applied", else "0 taken"
 abbrev pub unit_carried_out : {B : Type 0} → UnitCarried B → Met B
@@ -58,9 +55,9 @@ module _ {B : Type 0} (R : Rules B) where
   dropped b = record { body = R.fault b; transfer = no_transfer; answer = answer_number Fault }
 
   -- what a rise or a wait leaves of the unit, and what a fall does
-  abbrev pub unit_held : B → Held → Met B
-  unit_held b (Keep t) = record { body = b; transfer = t; answer = answer_number Taken }
-  unit_held b Drop = dropped b
+  abbrev pub unit_held : B → Option Transfer → Met B
+  unit_held b (Some t) = record { body = b; transfer = t; answer = answer_number Taken }
+  unit_held b None = dropped b
 
   abbrev pub unit_fall : B → Fallen → Met B
   unit_fall b (fallen.Keep t) = record { body = b; transfer = t; answer = answer_number Taken }

@@ -1,6 +1,5 @@
 -- The other side: the waits pass, and the unit is given the whole word at once.
-use Rattle.std.specs.Prelude.{ℕ, zero, suc, ◌+◌, List, [], ◌∷◌, length}
-use Rattle.std.proofs.Math.Option.{Option, none, some}
+use Rattle.std.specs.Prelude.{ℕ, zero, suc, ◌+◌, List, [], ◌∷◌, length, Option, Some, None}
 use Rattle.std.specs.Prelude.{if◌then◌else◌}
 use Rattle.handshake.specs.Transfer.{word_bits, no_transfer}
 use Rattle.event.specs.declared.Answer.TheVariants.{Taken, Fault}
@@ -26,7 +25,7 @@ module _ (w : Sending) (l : ℕ) where
   -- not complete at the first rise: that answers 5 and latches bit 6, request falls at once, and no later wait counts
   abbrev pub unit_refused : {B : Type 0} → B → Exchanged (Wired B)
   unit_refused b =
-      exchanged (going (rests b (level_of l w.first.low) (time_of w.first.low)) (answer_number Taken ∷ answer_number Fault ∷ zeros (length w.first.low) [])) none
+      exchanged (going (rests b (level_of l w.first.low) (time_of w.first.low)) (answer_number Taken ∷ answer_number Fault ∷ zeros (length w.first.low) [])) None
 
   abbrev pub unit_level : ℕ
   unit_level = sent_level l (w.first ∷ w.more)
@@ -39,11 +38,11 @@ module _ (w : Sending) (l : ℕ) where
 
   -- the word carried out at its 17th fall; a response is told bit by bit, its parity last
   abbrev pub done : {B : Type 0} → UnitCarried B → Option ℕ → Exchanged (Wired B)
-  done c none = exchanged (going (rests c.body unit_level time) (unit_answers c)) none
-  done c (some r) =
+  done c None = exchanged (going (rests c.body unit_level time) (unit_answers c)) None
+  done c (Some r) =
       exchanged
       (going (rests c.body (fetch_level unit_level w.gaps) (time + fetch_time w.gaps)) (zeros (fetch_count w.gaps) (unit_answers c)))
-      (some (bits_of word_bits r))
+      (Some (bits_of word_bits r))
 
   abbrev pub carries : {B : Type 0} → UnitCarried B → Exchanged (Wired B)
   carries c = done c c.told

@@ -5,13 +5,13 @@
 ghost use Rattle.std.specs.Prelude.{◌≡◌, ℕ, List};
 ghost use Rattle.std.specs.Borrow.{MutBor};
 
-// Lent alone, and looked at.
-pub fn looked<T: Copy, L: FnOnce(T) -> u32>(c: &T, look: L) -> u32
-    requires { L.pre look c.now }
-    ensures { L.post look c.now result }
+// Lent alone, or beside what is read, and looked at.
+pub fn looked<T: Copy, A, N, L: FnOnce(T, A) -> N>(c: &T, beside: A, look: L) -> N
+    requires { L.pre look c.now beside }
+    ensures { L.post look c.now beside result }
 {
     let old = *c;
-    look(old)
+    look(old, beside)
 }
 
 // Lent alone, and filled.
@@ -22,26 +22,26 @@ pub fn filled<T: Copy, F: FnOnce() -> T>(c: &mut T, fill: F)
     *c = fill();
 }
 
-// Beside two numbers: the record and the number are those of one result.
-pub fn word<T: Copy, R: Copy, V: FnOnce(T, u32, u32) -> R, P: FnOnce(R) -> T, N: FnOnce(R) -> u64>(
+// Beside what is given or read, as two numbers, a file, or a file and a number: the record and the number are those of one result.
+pub fn changed<T: Copy, A, R: Copy, V: FnOnce(T, A) -> R, P: FnOnce(R) -> T, N: FnOnce(R) -> u64>(
     c: &mut T,
-    a: u32,
-    b: u32,
+    beside: A,
     value: V,
     part: P,
     number: N,
 ) -> u64
-    requires value_ok { V.pre value c.old a b }
+    requires value_ok { V.pre value c.old beside }
     requires part_ok { P.IsAlwaysCallable part }
     requires number_ok { N.IsAlwaysCallable number }
-    ensures { (r : R) × V.post value c.old a b r × P.post part r c.new × N.post number r result }
+    ensures { (r : R) × V.post value c.old beside r × P.post part r c.new × N.post number r result }
 {
     let old = *c;
-    let sent = value(old, a, b);
-    *c = part(sent);
-    number(sent)
+    let made = value(old, beside);
+    *c = part(made);
+    number(made)
 }
 
+// Stays: no plainer as one: event, lay and capture each say in V.post what their call leaves of every part that it writes.
 // Beside a file and three numbers: one call leaves the file and a result; the record is made anew of that and of the old one.
 pub fn event<
     T: Copy,
@@ -60,44 +60,6 @@ pub fn event<
     let performed = value(old, file, kind, a, b);
     *c = part(old, performed);
     number(performed)
-}
-
-// Beside a file that is read.
-pub fn fit<T: Copy, R: Copy, V: FnOnce(T, &[u8]) -> R, P: FnOnce(R) -> T, N: FnOnce(R) -> u64>(
-    c: &mut T,
-    file: &[u8],
-    value: V,
-    part: P,
-    number: N,
-) -> u64
-    requires value_ok { V.pre value c.old file }
-    requires part_ok { P.IsAlwaysCallable part }
-    requires number_ok { N.IsAlwaysCallable number }
-    ensures { (r : R) × V.post value c.old file.entry r × P.post part r c.new × N.post number r result }
-{
-    let old = *c;
-    let fitted = value(old, file);
-    *c = part(fitted);
-    number(fitted)
-}
-
-// Beside a file that is read, and a number.
-pub fn pack<
-    T: Copy,
-    R: Copy,
-    V: FnOnce(T, &[u8], u32) -> R,
-    P: FnOnce(R) -> T,
-    N: FnOnce(R) -> u64,
->(c: &mut T, file: &[u8], slot: u32, value: V, part: P, number: N) -> u64
-    requires value_ok { V.pre value c.old file slot }
-    requires part_ok { P.IsAlwaysCallable part }
-    requires number_ok { N.IsAlwaysCallable number }
-    ensures { (r : R) × V.post value c.old file.entry slot r × P.post part r c.new × N.post number r result }
-{
-    let old = *c;
-    let found = value(old, file, slot);
-    *c = part(found);
-    number(found)
 }
 
 // A record that is read, beside a part that is written.
@@ -135,13 +97,4 @@ pub fn capture<
     let ran = value(old, file, samples, answers);
     *c = part(ran);
     number(ran)
-}
-
-// A record that is read, beside a part that is read.
-pub fn counted<T: Copy, V: FnOnce(T, &[u8]) -> u64>(c: &T, samples: &[u8], value: V) -> u64
-    requires { V.pre value c.now samples }
-    ensures { V.post value c.now samples.entry result }
-{
-    let old = *c;
-    value(old, samples)
 }

@@ -21,7 +21,6 @@ use Rattle.word_acts.specs.Acts.{left_latched, acted_of}
 use Rattle.word_table.specs.Word.{odd_b}
 use Rattle.word_table.specs.Table.{row_of, found_of}
 use Rattle.word_table.specs.Effect.{option_b, operand_b, blocked_b, act_of, order_of, effect_of}
-use Rattle.counts.specs.First.{first_of}
 use Rattle.word_rules.specs.Rules.{done_of, carry_of, plain_of}
 use Rattle.chain_record.specs.Record.{slot_pack, slot_state, look_of}
 use Rattle.chain_decision.specs.Decision.{heard_of}
@@ -59,12 +58,12 @@ unfolding chain_sound_b placed_of drive_b drive_sound_b selected_b writing_b rea
 resting = record { sound = refl; selected = refl; writegate = refl; readgate = refl; request = refl; closed = refl }
 
 at_once_clear : latched_after (at_once clears start) ≡ 0
-unfolding ones_in decide_of pass_event applied changed_of put_of pass_slot pass_drive pass_body motor_after wait_of late_b look_of slot_pack slot_state complete_b plain_of carry_of done_of effect_of order_of found_of row_of first_of odd_b option_b operand_b blocked_b act_of left_latched acted_of latch_of
+unfolding ones_in decide_of pass_event applied changed_of put_of pass_slot pass_drive pass_body motor_after wait_of late_b look_of slot_pack slot_state complete_b plain_of carry_of done_of effect_of order_of found_of row_of odd_b option_b operand_b blocked_b act_of left_latched acted_of latch_of
 at_once_clear = refl
 
 -- the first bit alone is a word of even parity: bit 7; the word itself is never carried out
 early_latched : latched_after (exchanges acts_on_first_bit clears start) ≡ 384
-unfolding ones_in decide_of signal_of heard_of request_rises request_falls rise_of fall_of applied changed_of put_of look_of slot_pack slot_state complete_b carry_of done_of effect_of order_of found_of row_of first_of odd_b option_b operand_b blocked_b act_of acted_of latch_of
+unfolding ones_in decide_of signal_of heard_of request_rises request_falls rise_of fall_of applied changed_of put_of look_of slot_pack slot_state complete_b carry_of done_of effect_of order_of found_of row_of odd_b option_b operand_b blocked_b act_of acted_of latch_of
 early_latched = refl
 
 pub first_bit_refuted : WordsAtOnce acts_on_first_bit → ⊥
@@ -74,7 +73,7 @@ first_bit_refuted demanded =
     let z : ◌≡◌ {A = ℕ} 384 0 = sym early_latched ∙ ap latched_after same ∙ at_once_clear in omega arith
 
 idle_latched : latched_after (exchanges carries_nothing clears start) ≡ 256
-unfolding ones_in decide_of signal_of heard_of request_rises request_falls rise_of fall_of applied changed_of put_of look_of slot_pack slot_state complete_b carry_of done_of effect_of order_of found_of row_of first_of odd_b option_b operand_b blocked_b act_of acted_of latch_of
+unfolding ones_in decide_of signal_of heard_of request_rises request_falls rise_of fall_of applied changed_of put_of look_of slot_pack slot_state complete_b carry_of done_of effect_of order_of found_of row_of odd_b option_b operand_b blocked_b act_of acted_of latch_of
 idle_latched = refl
 
 pub carries_nothing_refuted : WordsAtOnce carries_nothing → ⊥

@@ -3,9 +3,9 @@ use mathlib.Core.Path.{◌≡◌, refl, sym, ap, ◌∙◌}
 use mathlib.Core.List.{[]}
 use Prim.Native.Nat.{ℕ, ◌≤◌}
 use native.Mathlib.Omega.{arith}
+use Rattle.std.specs.Prelude.{Ok}
 use Rattle.event.specs.declared.Event.{Event}
 use Rattle.event.specs.declared.Event.TheVariants.{WriteGate, Pass}
-use Rattle.event.specs.declared.Decoded.TheVariants.{Is}
 use Rattle.event.specs.Decode.{ranged, level_line, kind_row, decode_of}
 use Rattle.event.specs.declared.Answer.{Answer}
 use Rattle.event.specs.declared.Answer.TheVariants.{Taken, Unselected, Inhibited, Fault}
@@ -33,7 +33,7 @@ ours_leaves c file kind a b e = answer_leaves c file kind a b e
 abbrev still : Event
 still = Pass (record { 0 = 0 })
 
-passing : decode_of 6 0 0 ≡ Is still
+passing : decode_of 6 0 0 ≡ Ok still
 unfolding decode_of kind_row ranged
 passing = refl
 
@@ -42,7 +42,7 @@ unfolding first_applies
 still_taken = refl
 
 -- write gate rises, and no drive is there
-gate : decode_of 2 1 0 ≡ Is (WriteGate 1)
+gate : decode_of 2 1 0 ≡ Ok (WriteGate 1)
 unfolding decode_of kind_row ranged level_line
 gate = refl
 
@@ -53,7 +53,7 @@ gate_unselected = refl
 module _ (B : Board) (given : GivesFirst B) where
   -- a number that is given always, and is not the first that applies to an event of the empty chain
   wrong : (x : Answer) → AlwaysAnswers x B → answer_number x ≤ 5 → (answer_number x ≡ 1 → ⊥) → (answer_number x ≡ 2 → ⊥)
-      → (e : Event) (kind a b first : ℕ) → decode_of kind a b ≡ Is e → first_applies empty_chain e ≡ first → answer_number x ≡ first
+      → (e : Event) (kind a b first : ℕ) → decode_of kind a b ≡ Ok e → first_applies empty_chain e ≡ first → answer_number x ≡ first
   wrong x is small one two e kind a b first q f =
       let n : answer_number (B.step kind a b empty_chain []).answer ≡ answer_number x = ap answer_number (is kind a b empty_chain []) in
       sym n ∙ given empty_chain [] e kind a b q (rw n small) (rw n one) (rw n two) ∙ f

@@ -5,6 +5,7 @@ use mathlib.Core.List.{List}
 use Prim.Native.Nat.{ℕ}
 use native.Mathlib.Omega.{arith}
 use lib.ListN.{get_or, set}
+use Rattle.std.specs.Prelude.{Ok}
 use Rattle.pack_profile.specs.Valid.{valid_b}
 use Rattle.handshake.specs.SoundTransfer.{left_b}
 use Rattle.drive_record.specs.Limits.{limits_b}
@@ -14,7 +15,6 @@ use Rattle.drive_gates.specs.CellPlace.{place_of}
 use Rattle.drive_cable.specs.SoundDrive.{writing_b, reading_b, selected_b, drive_sound_b}
 use Rattle.event.specs.declared.Event.{Event}
 use Rattle.event.specs.declared.Event.TheVariants.{Cell}
-use Rattle.event.specs.declared.Decoded.TheVariants.{Is}
 use Rattle.event.specs.Decode.{ranged, kind_row, decode_of}
 use Rattle.event.specs.declared.Answer.TheVariants.{Written}
 use Rattle.chain_record.specs.Record.{slot_pack, slot_state, look_of}
@@ -32,7 +32,7 @@ use Rattle.law_tight.specs.Writing.{writing_chain, zero_file}
 abbrev cell : Event
 cell = Cell (record { 0 = 0 }) 65
 
-decodes : decode_of 7 0 65 ≡ Is cell
+decodes : decode_of 7 0 65 ≡ Ok cell
 unfolding decode_of kind_row ranged
 decodes = refl
 

@@ -1,5 +1,5 @@
 -- "one that acts on the first bit and only acknowledges sixteen more (demand 3 ..)": over the real chain, all else as ours.
-use Rattle.std.specs.Prelude.{◌&&◌, ◌≡◌, ◌∷◌, eqb, replicate}
+use Rattle.std.specs.Prelude.{◌&&◌, ◌≡◌, ◌∷◌, eqb, replicate, None}
 use Rattle.std.specs.Prelude.{if◌then◌else◌}
 use Rattle.pack_profile.specs.declared.Profile.{Profile}
 use Rattle.pack_read.specs.Packs.{no_pack, fitted_pack}
@@ -16,7 +16,6 @@ use Rattle.word_rules.specs.Rules.{carry_of}
 use Rattle.chain_record.specs.declared.Chain.{Chain}
 use Rattle.chain_record.specs.Record.{look_of}
 use Rattle.chain_decision.specs.declared.Decision.{Decision}
-use Rattle.chain_decision.specs.declared.Sent.TheVariants as sending
 use Rattle.chain_decision.specs.Decision.{ruled_of}
 use Rattle.chain_apply.specs.Apply.{applied}
 use Rattle.chain_step.specs.Run.{Lent, lent}
@@ -45,7 +44,7 @@ module _ (falling : Profile → State → Fallen → Ruled) where
   fall_decision (micros us) d = decision_of (micros us) d
   fall_decision (ask v) d =
       if eqb v 0 && eqb d.chain.lines.request 1
-      then ruled_of (with_request 0 d.chain.lines) sending.Nothing (falling (look_of d.chain).profile (look_of d.chain).state (fall_of (look_of d.chain).state.transfer))
+      then ruled_of (with_request 0 d.chain.lines) None (falling (look_of d.chain).profile (look_of d.chain).state (fall_of (look_of d.chain).state.transfer))
       else decision_of (ask v) d
 
   -- the chain with another rule for request's fall

@@ -1,7 +1,7 @@
 -- "that any two outcomes allowed by it coincide is proved": contracts, and the outcomes of functions that leave more than a result.
-use Rattle.std.specs.Prelude.{ℕ, ◌≡◌, List, length}
+use Rattle.std.specs.Prelude.{ℕ, ◌≡◌, List, length, Result}
 use Rattle.pack_profile.specs.declared.Profile.{Profile}
-use Rattle.pack_lay.specs.declared.Laid.{Laid}
+use Rattle.pack_read.specs.declared.Refusal.{Refusal}
 use Rattle.pack_lay.specs.declared.stages.Stage.{Stage}
 use Rattle.pack_lay.specs.Lay.{laid_answer, laid_bytes}
 use Rattle.pack_lay.specs.Order.{staged_bytes}
@@ -54,11 +54,11 @@ pub record StagingIn : Type 0 where
   pub stage : Stage
 
 -- `pack_lay::lay`
-abbrev pub LayContract : Contract LayingIn (Leaving Laid)
+abbrev pub LayContract : Contract LayingIn (Leaving (Result (Unit {0}) Refusal))
 LayContract i o = (o.result ≡ laid_answer i.profile (length i.part)) × (o.left ≡ laid_bytes i.profile i.part)
 
 -- `pack_lay::stages::lay_stage`
-abbrev pub StageContract : Contract StagingIn (Leaving Laid)
+abbrev pub StageContract : Contract StagingIn (Leaving (Result (Unit {0}) Refusal))
 StageContract i o =
     (o.result ≡ laid_answer i.laying.profile (length i.laying.part)) × (o.left ≡ staged_bytes i.stage i.laying.profile i.laying.part)
 

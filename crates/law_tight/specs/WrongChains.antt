@@ -1,7 +1,6 @@
 -- "Tried against them and refused by the prover": document 01's wrong chains, as boards of their own, and what a board must keep.
-use Rattle.std.specs.Prelude.{ℕ, ◌≤◌, ◌≡◌, List}
+use Rattle.std.specs.Prelude.{ℕ, ◌≤◌, ◌≡◌, List, Ok}
 use Rattle.event.specs.declared.Event.{Event}
-use Rattle.event.specs.declared.Decoded.TheVariants.{Is}
 use Rattle.event.specs.Decode.{decode_of}
 use Rattle.event.specs.declared.Answer.{Answer}
 use Rattle.event.specs.Answer.{answer_number}
@@ -37,12 +36,12 @@ writes_nothing = record { step = step_of; file = λ (kind a b : ℕ) (c : Chain)
 module _ (B : Board) where
   -- "Of the answers 5, 4, 3, 0 the first that applies is given"
   abbrev pub GivesFirst : Type 0
-  GivesFirst = (c : Chain) (file : List ℕ) (e : Event) (kind a b : ℕ) → decode_of kind a b ≡ Is e
+  GivesFirst = (c : Chain) (file : List ℕ) (e : Event) (kind a b : ℕ) → decode_of kind a b ≡ Ok e
       → answer_number (B.step kind a b c file).answer ≤ 5
       → (answer_number (B.step kind a b c file).answer ≡ 1 → ⊥) → (answer_number (B.step kind a b c file).answer ≡ 2 → ⊥)
       → answer_number (B.step kind a b c file).answer ≡ first_applies c e
 
   -- the answer table's column "leaves"
   abbrev pub LeavesAsTold : Type 0
-  LeavesAsTold = (c : Chain) (file : List ℕ) (kind a b : ℕ) (e : Event) → decode_of kind a b ≡ Is e
+  LeavesAsTold = (c : Chain) (file : List ℕ) (kind a b : ℕ) (e : Event) → decode_of kind a b ≡ Ok e
       → Leaves e c file (B.step kind a b c file).answer (B.step kind a b c file).chain (B.file kind a b c file)

@@ -4,11 +4,10 @@ use native.Mathlib.Omega.{arith}
 use mathlib.Core.Path.{◌≡◌, refl, sym, ap, ap₂, ◌∙◌}
 use mathlib.Core.Bool.{Bool, true, false}
 use mathlib.Core.List.{List, [], ◌∷◌}
-use mathlib.Core.Option.{none, some}
 use lib.ListN.{length, get_or, set}
 use lib.Seq.{set-get_or}
 use borrow.Author.Tests.{leb-true, eq-eqb}
-use Rattle.std.specs.Prelude.{if◌then◌else◌}
+use Rattle.std.specs.Prelude.{if◌then◌else◌, Some, None, Option}
 use Rattle.counts.proofs.Slots.{map_at}
 use Rattle.counts.proofs.Tests.{each}
 use Rattle.pack_profile.specs.declared.Profile.{Profile}
@@ -23,8 +22,6 @@ use Rattle.drive_rules.specs.Time as time
 use Rattle.lines.specs.Lines.{line_tests}
 use Rattle.drive_cable.proofs.OnCable.{Selected}
 use Rattle.law_drive.proofs.Gates.{write_gate_off, read_gate_off}
-use Rattle.word_rules.specs.declared.Told.{Told}
-use Rattle.word_rules.specs.declared.Told.TheVariants.{Nothing, Word}
 use Rattle.word_rules.specs.declared.Answered.{Answered}
 use Rattle.word_rules.specs.declared.Carried.{Carried}
 use Rattle.word_rules.specs.Rules.{carry_of, plain_of}
@@ -43,7 +40,7 @@ use Rattle.law_exchange.specs.Unit.{Wired, unit}
 use Rattle.law_exchange.specs.UnitAtOnce as alone
 use Rattle.law_exchange.proofs.Like.{exchanges_like, any_waits}
 use Rattle.law_exchange.proofs.Exchange.{at_once_lem}
-use Rattle.law_words.specs.Drive.{told_of, carried_by, drive}
+use Rattle.law_words.specs.Drive.{carried_by, drive}
 use Rattle.chain_step.specs.Run.{Lent}
 use Rattle.law_words.specs.Decided.{drive_of, decided}
 use Rattle.law_words.specs.AtOnce.{Resting, passed, plain, given, risen, refused, waited, called_on, level_left, answers_given, response_bits, called, at_once}
@@ -195,7 +192,7 @@ module _ (w : Sending) (d : Lent) (fit : InTime w) (r : Resting d.chain) where
   refused_alike q = λ i. record {
     now = ended c₀ d.file r t₀ n₀ (level_of l₀ w.first.low) (latch_bit 6 body₀) (refuses c₀ d.file r t₀ n₀ q) i;
     answers = 0 ∷ 5 ∷ alone.zeros (length w.first.low) [];
-    response = none;
+    response = None;
   }
 
   module _ (q : calm_b body₀ ≡ true) where
@@ -216,28 +213,28 @@ module _ (w : Sending) (d : Lent) (fit : InTime w) (r : Resting d.chain) where
     fetched_late = omega (arith, sent_late)
 
     -- the call when the waits have passed
-    call_is : (t : Told) → plain n₀ (waited w d t) ≡ record { state = state_of carried₀.body no_transfer; told = carried₀.told; outcome = carried₀.outcome }
-    call_is Nothing = later _ sent_late
-    call_is (Word x) = later _ fetched_late
+    call_is : (t : Option ℕ) → plain n₀ (waited w d t) ≡ record { state = state_of carried₀.body no_transfer; told = carried₀.told; outcome = carried₀.outcome }
+    call_is None = later _ sent_late
+    call_is (Some x) = later _ fetched_late
 
     fall : alone.unit_fall_answer (carried_by carried₀) ≡ answer_number (outcome_answer carried₀.outcome)
     fall = sym (carry_answer p₀ body₀ n₀)
 
-    carried_alike : (t : Told) → lent (alone.done w l₀ (carried_by carried₀) (told_of t))
+    carried_alike : (t : Option ℕ) → lent (alone.done w l₀ (carried_by carried₀) t)
         ≡ record {
           now = record { chain = given n₀ (level_left w d t) (waited w d t); file = d.file };
           answers = answers_given w d (answer_number (outcome_answer carried₀.outcome)) t;
           response = response_bits w d t;
         }
-    carried_alike Nothing = λ i. record {
-      now = ended c₀ d.file r _ n₀ (level_left w d Nothing) carried₀.body (ap (λ (a : Answered). a.state) (call_is Nothing)) i;
+    carried_alike None = λ i. record {
+      now = ended c₀ d.file r _ n₀ (level_left w d None) carried₀.body (ap (λ (a : Answered). a.state) (call_is None)) i;
       answers = fall i ∷ alone.zeros (sent_count w.first w.more) [];
-      response = none;
+      response = None;
     }
-    carried_alike (Word x) = λ i. record {
-      now = ended c₀ d.file r _ n₀ (level_left w d (Word x)) carried₀.body (ap (λ (a : Answered). a.state) (call_is (Word x))) i;
+    carried_alike (Some x) = λ i. record {
+      now = ended c₀ d.file r _ n₀ (level_left w d (Some x)) carried₀.body (ap (λ (a : Answered). a.state) (call_is (Some x))) i;
       answers = alone.zeros (fetch_count w.gaps) (fall i ∷ alone.zeros (sent_count w.first w.more) []);
-      response = some (bits_of word_bits x);
+      response = Some (bits_of word_bits x);
     }
 
     abbrev answered₀ : Answered

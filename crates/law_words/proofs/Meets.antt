@@ -3,11 +3,9 @@ use Prim.Native.Nat.{ℕ, ◌+◌}
 use mathlib.Core.Path.{◌≡◌, refl, ap}
 use mathlib.Core.Bool.{Bool, true, false}
 use lib.Dec.{eqb}
-use Rattle.std.specs.Prelude.{if◌then◌else◌}
+use Rattle.std.specs.Prelude.{if◌then◌else◌, Option, Some, None}
 use Rattle.pack_profile.specs.declared.Profile.{Profile}
 use Rattle.handshake.specs.declared.Transfer.{Transfer}
-use Rattle.handshake.specs.declared.Held.{Held}
-use Rattle.handshake.specs.declared.Held.TheVariants.{Keep, Drop}
 use Rattle.handshake.specs.declared.Fallen.{Fallen}
 use Rattle.handshake.specs.declared.Fallen.TheVariants as fallen
 use Rattle.handshake.specs.Transfer.{open_b}
@@ -19,8 +17,6 @@ use Rattle.drive_record.specs.State.{state_of}
 use Rattle.drive_record.specs.Status.{calm_b}
 use Rattle.drive_record.specs.Faults.{held_of}
 use Rattle.drive_rules.specs.Time as time
-use Rattle.word_rules.specs.declared.Told.{Told}
-use Rattle.word_rules.specs.declared.Told.TheVariants.{Nothing, Word}
 use Rattle.word_rules.specs.Rules.{carry_of}
 use Rattle.lines.specs.declared.Lines.{Lines}
 use Rattle.drive_cable.specs.Request as unit
@@ -30,25 +26,25 @@ use Rattle.chain_decision.specs.Decision.{outcome_answer}
 use Rattle.chain_apply.specs.Apply.{pass_slot}
 use Rattle.law_drive.proofs.DriveTime.{pass_pass}
 use Rattle.law_exchange.specs.Unit.{Met, Wired, unit_after_word, unit_held, unit_fall, unit_risen, unit_fallen, unit_passed}
-use Rattle.law_words.specs.Drive.{told_of, drive}
+use Rattle.law_words.specs.Drive.{drive}
 use Rattle.law_words.proofs.DriveLaws.{carry_answer}
 
 -- the unit's state as the drive's
 abbrev pub stood : Met Body → State
 stood m = state_of m.body m.transfer
 
-after_told : (t : Told) → unit.after_word t ≡ unit_after_word (told_of t)
-after_told Nothing = refl
-after_told (Word r) = refl
+after_told : (t : Option ℕ) → unit.after_word t ≡ unit_after_word t
+after_told None = refl
+after_told (Some r) = refl
 
 module _ (p : Profile) (b : Body) where
-  held_state : (e : Held) → (held_of b e).state ≡ stood (unit_held (drive p) b e)
-  held_state (Keep t) = refl
-  held_state Drop = refl
+  held_state : (e : Option Transfer) → (held_of b e).state ≡ stood (unit_held (drive p) b e)
+  held_state (Some t) = refl
+  held_state None = refl
 
-  held_answer : (e : Held) → answer_number (outcome_answer (held_of b e).outcome) ≡ (unit_held (drive p) b e).answer
-  held_answer (Keep t) = refl
-  held_answer Drop = refl
+  held_answer : (e : Option Transfer) → answer_number (outcome_answer (held_of b e).outcome) ≡ (unit_held (drive p) b e).answer
+  held_answer (Some t) = refl
+  held_answer None = refl
 
   fallen_state : (e : Fallen) → (unit.fallen_of p b e).state ≡ stood (unit_fall (drive p) b e)
   fallen_state (fallen.Keep t) = refl
@@ -90,7 +86,7 @@ module _ (p : Profile) (u : Wired Body) where
       where
         by : (late runs : Bool) (aged same : Transfer)
             → answer_number (if late then Fault else Taken)
-            ≡ (unit_held (drive p) (time.pass_body (record { 0 = us }) u.body) (if late then Drop else (if runs then Keep aged else Keep same))).answer
+            ≡ (unit_held (drive p) (time.pass_body (record { 0 = us }) u.body) (if late then None else (if runs then Some aged else Some same))).answer
         by true runs aged same = refl
         by false true aged same = refl
         by false false aged same = refl

@@ -1,4 +1,5 @@
 -- The plain word rules on a drive that neither reads nor writes and has no transfer open, and when such a drive stays as it is.
+use Rattle.std.specs.Prelude.{None}
 use Prim.Native.Nat.{ℕ, ◌+◌, ◌-◌, ◌≤◌}
 use native.Mathlib.Omega.{arith}
 use mathlib.Core.Path.{◌≡◌, refl, sym, ◌∙◌}
@@ -13,7 +14,6 @@ use Rattle.drive_record.specs.State.{state_of}
 use Rattle.drive_record.specs.Faults.{latch_bit}
 use Rattle.drive_record.specs.Status.{calm_b, complete_b}
 use Rattle.drive_rules.specs.Time.{pass_body, pass_drive}
-use Rattle.word_rules.specs.declared.Told.TheVariants.{Nothing}
 use Rattle.word_rules.specs.Rules.{answered, carry_of, plain_of}
 use Rattle.law_drive.proofs.DriveTime.{calm_stays, body_twice}
 use Rattle.law_exchange.specs.Host.{Bit}
@@ -24,7 +24,7 @@ module _ (p : Profile) (n : ℕ) (b : Body) (reading : b.reading ≡ 0) (writing
   unfolding plain_of complete_b
   plain_carries q = rw (reading, writing, q)
 
-  pub plain_refuses : calm_b b ≡ false → plain_of p (state_of b no_transfer) n ≡ answered Fault Nothing (state_of (latch_bit 6 b) no_transfer)
+  pub plain_refuses : calm_b b ≡ false → plain_of p (state_of b no_transfer) n ≡ answered Fault None (state_of (latch_bit 6 b) no_transfer)
   unfolding plain_of complete_b
   plain_refuses q = rw (reading, writing, q)
 

@@ -1,10 +1,12 @@
 -- Demand 3's premises can be met: any sound chain is brought to rest on any fitted slot by five events.
+use Rattle.std.specs.Prelude.{None}
 use mathlib.Core.Path.{◌≡◌, refl, ap, ◌∙◌}
 use mathlib.Core.Bool.{true, false}
 use Prim.Native.Nat.{ℕ, ◌-◌, ◌≤◌}
 use native.Mathlib.Omega.{arith}
 use lib.Dec.{eqb}
 use borrow.Author.Tests.{ne_eqb, le-leb}
+use Rattle.std.specs.Prelude.{Ok}
 use Rattle.counts.specs.declared.Head.{Head}
 use Rattle.counts.proofs.Choice.{either_way}
 use Rattle.counts.proofs.Tests.{both, within_both}
@@ -17,14 +19,12 @@ use Rattle.drive_record.specs.declared.State.{State}
 use Rattle.drive_record.specs.declared.Ruled.{Ruled}
 use Rattle.drive_rules.specs.Heads.{head_change, met_of}
 use Rattle.event.specs.declared.Event.TheVariants.{Select, WriteGate, ReadGate, Request}
-use Rattle.event.specs.declared.Decoded.TheVariants.{Is}
 use Rattle.event.specs.Decode.{ranged, level_line, kind_row, decode_of}
 use Rattle.lines.specs.declared.Lines.{Lines}
 use Rattle.lines.specs.Lines.{with_select, with_writegate, with_readgate, with_request}
 use Rattle.chain_record.specs.declared.Chain.{Chain}
 use Rattle.chain_record.specs.Record.{slot_pack, slot_state, look_of}
 use Rattle.chain_decision.specs.declared.Decision.{Decision}
-use Rattle.chain_decision.specs.declared.Sent.TheVariants.{Nothing}
 use Rattle.chain_decision.specs.Decision.{ruled_of}
 use Rattle.chain_select.specs.Select.{moved_of}
 use Rattle.chain_apply.specs.Apply.{changed_of, applied}
@@ -60,7 +60,7 @@ module _ (c : Chain) (h : chain_sound_b c ≡ true) (k : ℕ) (f : fitted_b (slo
   off = rw none
 
   enters : decide_of c (Select k)
-      ≡ ruled_of (with_select k c.lines) Nothing (met_of (slot_pack c.packs k).profile c.lines.heads (slot_state c.states k))
+      ≡ ruled_of (with_select k c.lines) None (met_of (slot_pack c.packs k).profile c.lines.heads (slot_state c.states k))
   unfolding decide_of select_event moved_of
   enters = rw (ne_eqb c.lines.select k apart, f, off)
 
@@ -89,7 +89,7 @@ module _ (k : ℕ) (d : Lent) (s : SoundOver d) (f : fitted_b (slot_pack d.chain
   small : k ≤ 7
   small = let w = within_both 1 7 k (is_slot d.chain s.formed k f) in omega arith
 
-  decodes : decode_of 0 k 0 ≡ Is (Select k)
+  decodes : decode_of 0 k 0 ≡ Ok (Select k)
   unfolding decode_of kind_row ranged
   decodes = rw (le-leb k 7 small)
 

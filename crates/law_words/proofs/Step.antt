@@ -6,9 +6,10 @@ use mathlib.Core.Bool.{true}
 use mathlib.Core.List.{List, [], ◌∷◌}
 use lib.ListN.{length}
 use borrow.Author.Tests.{le-leb, eq-eqb}
+use Rattle.std.specs.Prelude.{Result, Ok}
 use Rattle.handshake.specs.Transfer.{patience}
-use Rattle.event.specs.declared.Decoded.{Decoded}
-use Rattle.event.specs.declared.Decoded.TheVariants.{Is}
+use Rattle.event.specs.declared.Event.{Event}
+use Rattle.event.specs.declared.Undecoded.{Undecoded}
 use Rattle.event.specs.Decode.{ranged, level_line, kind_row, decode_of}
 use Rattle.event.specs.Answer.{answer_number}
 use Rattle.chain_decision.specs.declared.Decision.{Decision}
@@ -30,7 +31,7 @@ use Rattle.law_words.specs.AtOnce.{Resting, at_once}
 use Rattle.law_words.specs.Stepped.{kind_of, operand_of, InRange, numbers_of, stepped}
 use Rattle.law_words.proofs.Demand.{demand_3}
 
-decodes : (e : Signal) → InRange e → decode_of (kind_of e) (operand_of e) 0 ≡ Is (event_of e)
+decodes : (e : Signal) → InRange e → decode_of (kind_of e) (operand_of e) 0 ≡ Ok (event_of e)
 unfolding decode_of kind_row ranged level_line
 decodes (level v) h = rw (le-leb v 1 h)
 decodes (ask v) h = rw (le-leb v 1 h)
@@ -41,7 +42,7 @@ module _ (e : Signal) (d : Lent) (f : InRange e) (s : chain_sound_b d.chain ≡ 
   judged_is : judged_of d.chain (length d.file) (kind_of e) (operand_of e) 0 ≡ decision_of e d
   unfolding judged_of allowed_of
   judged_is =
-      ap (λ (x : Decoded). decoded_of d.chain (length d.file) x) (decodes e f)
+      ap (λ (x : Result Event Undecoded). decoded_of d.chain (length d.file) x) (decodes e f)
       ∙ rw (s, eq-eqb (length d.file) d.chain.length.0 l)
 
   step_is : step_by (numbers_of e) d ≡ performed d.chain d.file (decision_of e d)

@@ -1,11 +1,8 @@
 -- The other side: the waits pass on every drive, and the plain word rules take the whole word at once.
-use Rattle.std.specs.Prelude.{ℕ, ◌+◌, ◌≡◌, true, false, List, [], ◌∷◌, length}
-use Rattle.std.proofs.Math.Option.{Option, none, some}
+use Rattle.std.specs.Prelude.{ℕ, ◌+◌, ◌≡◌, true, false, List, [], ◌∷◌, length, Option, Some, None}
 use Rattle.std.specs.Prelude.{if◌then◌else◌}
 use Rattle.handshake.specs.Transfer.{word_bits, open_b}
 use Rattle.drive_record.specs.Status.{complete_b}
-use Rattle.word_rules.specs.declared.Told.{Told}
-use Rattle.word_rules.specs.declared.Told.TheVariants.{Nothing, Word}
 use Rattle.word_rules.specs.declared.Answered.{Answered}
 use Rattle.word_rules.specs.Rules.{plain_of}
 use Rattle.event.specs.declared.Event.TheVariants.{Pass}
@@ -78,31 +75,31 @@ module _ (w : Sending) (d : Lent) where
   refused = record {
     now = record { chain = given word (level_of level w.first.low) risen; file = d.file };
     answers = answer_number Taken ∷ answer_number Fault ∷ zeros (length w.first.low) [];
-    response = none;
+    response = None;
   }
 
   -- the chain when the waits have passed, those of the fetch too where the word has a response
-  abbrev pub waited : Told → Chain
-  waited Nothing = sent
-  waited (Word r) = fetched
+  abbrev pub waited : Option ℕ → Chain
+  waited None = sent
+  waited (Some r) = fetched
 
   -- the chain that the plain word rules are called on: every wait has passed
   abbrev pub called_on : Chain
   called_on = waited (plain word sent).told
 
-  abbrev pub level_left : Told → ℕ
-  level_left Nothing = last_level
-  level_left (Word r) = fetch_level last_level w.gaps
+  abbrev pub level_left : Option ℕ → ℕ
+  level_left None = last_level
+  level_left (Some r) = fetch_level last_level w.gaps
 
   -- 0 at every event but perhaps the 17th fall
-  abbrev pub answers_given : ℕ → Told → List ℕ
-  answers_given fall Nothing = fall ∷ zeros (sent_count w.first w.more) []
-  answers_given fall (Word r) = zeros (fetch_count w.gaps) (fall ∷ zeros (sent_count w.first w.more) [])
+  abbrev pub answers_given : ℕ → Option ℕ → List ℕ
+  answers_given fall None = fall ∷ zeros (sent_count w.first w.more) []
+  answers_given fall (Some r) = zeros (fetch_count w.gaps) (fall ∷ zeros (sent_count w.first w.more) [])
 
   -- seventeen bits, parity last
-  abbrev pub response_bits : Told → Option (List ℕ)
-  response_bits Nothing = none
-  response_bits (Word r) = some (bits_of word_bits r)
+  abbrev pub response_bits : Option ℕ → Option (List ℕ)
+  response_bits None = None
+  response_bits (Some r) = Some (bits_of word_bits r)
 
   -- what one call on a chain gives: the record, the file, the answers and the response
   abbrev pub called : Chain → Answered → Exchanged Lent

@@ -1,6 +1,5 @@
 -- A drive as a unit on the cable: its own time, latch and words.
 use Rattle.std.specs.Prelude.{ℕ, Bool, true, false}
-use Rattle.std.proofs.Math.Option.{Option, none, some}
 use Rattle.pack_profile.specs.declared.Profile.{Profile}
 use Rattle.drive_record.specs.declared.Body.{Body}
 use Rattle.drive_record.specs.declared.Outcome.{Outcome}
@@ -9,14 +8,8 @@ use Rattle.drive_record.specs.Faults.{latch_bit}
 use Rattle.drive_record.specs.Status.{calm_b}
 use Rattle.drive_rules.specs.Time.{pass_body}
 use Rattle.word_rules.specs.declared.Carried as word
-use Rattle.word_rules.specs.declared.Told.{Told}
-use Rattle.word_rules.specs.declared.Told.TheVariants.{Nothing, Word}
 use Rattle.word_rules.specs.Rules.{carry_of}
 use Rattle.law_exchange.specs.Unit.{UnitCarried, Rules}
-
-abbrev pub told_of : Told → Option ℕ
-told_of Nothing = none
-told_of (Word response) = some response
 
 abbrev pub is_fault : Outcome → Bool
 is_fault Done = false
@@ -24,7 +17,7 @@ is_fault Inhibited = false
 is_fault Fault = true
 
 abbrev pub carried_by : word.Carried → UnitCarried Body
-carried_by c = record { body = c.body; told = told_of c.told; fails = is_fault c.outcome }
+carried_by c = record { body = c.body; told = c.told; fails = is_fault c.outcome }
 
 abbrev pub drive : Profile → Rules Body
 drive p = record {

@@ -7,8 +7,9 @@ ghost use Rattle.lines.specs.Lines.{lines_b};
 use counts::{Head, LAST_SLOT};
 
 // The levels of the control cable's lines that the host drives. The gates have two bytes so that no byte is padding.
+// Stays: levels are numbers, since C lends the record.
 #[repr(C)]
-#[derive(Clone, Copy)]
+#[derive(Clone, Copy, Default, PartialEq, Eq)]
 pub struct Lines {
     pub select: u8,
     pub heads: Head,

@@ -12,7 +12,7 @@ use Rattle.pack_profile.specs.Valid.{valid_b}
 use Rattle.pack_profile.proofs.FieldRanges.{ranges}
 use Rattle.pack_trailer.specs.Form.{trailer_length}
 use Rattle.pack_trailer.specs.TrailerBytes.{trailer_of}
-use Rattle.pack_read.specs.declared.read.Reading.TheVariants as answer
+use Rattle.std.specs.Prelude.{Ok}
 use Rattle.pack_read.specs.Packs.{longest_file, no_packs}
 use Rattle.pack_read.specs.Read.{read_all}
 use Rattle.pack_read.specs.File.{pack_bytes, file_of, Standing, slots_of}
@@ -34,7 +34,7 @@ zeroed_file (p ∷ ps) = ap₂ (λ (x y : List ℕ). x ++ y) (zeroed_bytes p) (z
 
 -- any profiles with rising slots, each valid, laid one behind the other
 pub laid_file_reads : (ps : List Profile) → Standing (zeroed_all ps) 8 → length (laid_file ps) ≤ longest_file
-    → read_all (laid_file ps) ≡ record { answer = answer.Whole; slots = slots_of (zeroed_all ps) 0 no_packs }
+    → read_all (laid_file ps) ≡ Ok (slots_of (zeroed_all ps) 0 no_packs)
 laid_file_reads ps s small = rw (← zeroed_file ps) (read_file (zeroed_all ps) s (omega (arith, ap length (zeroed_file ps))))
 
 -- two packs laid into a part that has just the room for both
@@ -53,7 +53,7 @@ module _ (p q : Profile) (v : valid_b p ≡ true) (w : valid_b q ≡ true) (l : 
       rw (first, take_at (laid_pack p) rest (pack_length p) (laid_length p), drop_at (laid_pack p) rest (pack_length p) (laid_length p), second, none)
 
   pub two_laid_read : p.slot < q.slot → length l ≡ pack_length p + pack_length q → length l ≤ longest_file
-      → read_all laid_two ≡ record { answer = answer.Whole; slots = slots_of (zeroed_all (p ∷ q ∷ [])) 0 no_packs }
+      → read_all laid_two ≡ Ok (slots_of (zeroed_all (p ∷ q ∷ [])) 0 no_packs)
   two_laid_read rising long small =
       let r = ranges q w in
       let n : (x : Profile) → length (replicate {A = ℕ} (medium_of x.shape) 0) ≡ medium_of x.shape = λ x. length-replicate (medium_of x.shape) 0 in

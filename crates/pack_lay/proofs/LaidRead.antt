@@ -11,7 +11,8 @@ use lib.Dec.{eqb, ltb}
 use lib.Seq.{get_or-drop, take_at, length-take-le, drop-drop}
 use Rattle.pack_trailer.specs.Form.{trailer_length}
 use Rattle.counts.specs.declared.Place.{Place}
-use Rattle.std.specs.Prelude.{if◌then◌else◌}
+use Rattle.std.specs.Prelude.{if◌then◌else◌, Result, Ok, Err}
+use Rattle.std.specs.Result.{result_unwrap_or}
 use Rattle.counts.specs.Bytes.{Bytes}
 use Rattle.counts.proofs.Bytes.{bytes_take}
 use Rattle.counts.proofs.Choice.{never}
@@ -24,10 +25,7 @@ use Rattle.pack_trailer.proofs.RoundTrip.{laid_read}
 use Rattle.pack_read.specs.declared.Pack.{Pack}
 use Rattle.pack_read.specs.declared.Refusal.{Refusal}
 use Rattle.pack_read.specs.declared.Refusal.TheVariants.{Large}
-use Rattle.pack_read.specs.declared.read.Packs.{Packs}
-use Rattle.pack_read.specs.declared.read.Last.{Last}
-use Rattle.pack_read.specs.declared.read.Last.TheVariants.{Found, Refused}
-use Rattle.pack_read.specs.declared.read.Reading.TheVariants as answer
+use Rattle.pack_read.specs.declared.read.Refused.{Refused}
 use Rattle.pack_read.specs.Packs.{longest_file, no_packs, fitted_pack}
 use Rattle.pack_read.specs.Read.{last_pack, refused_at, and_in_front, read_back, read_all}
 use Rattle.pack_lay.specs.Lay.{pack_length, laid_pack, laid_bytes}
@@ -69,7 +67,7 @@ slots_more (y ∷ xs) x place found =
     (omega (arith, length-append (pack_bytes y) (file_of xs))))
 
 -- the pack that was read: its medium, as it stands in the file
-module _ (l : List ℕ) (small : Bytes l) (limit : ℕ) (s : Place) (p : Profile) (e : last_pack l limit ≡ Found s p) where
+module _ (l : List ℕ) (small : Bytes l) (limit : ℕ) (s : Place) (p : Profile) (e : last_pack l limit ≡ Ok (s, p)) where
   abbrev contents : Contents
   contents = record { profile = p; medium = take (medium_of p.shape) (drop s.0 l) }
 
@@ -113,34 +111,26 @@ empty_list : (l : List ℕ) → length l ≡ 0 → l ≡ []
 empty_list [] e = refl
 empty_list (x ∷ l) e = absurd (omega arith)
 
-abbrev whole_of : List Pack → Packs
-whole_of slots = record { answer = answer.Whole; slots = slots }
-
-not_refused : (why : Refusal) (end : ℕ) (slots : List Pack) → refused_at why end ≡ whole_of slots → ⊥
-not_refused why end slots e =
-    let a : answer.Refused why (record { 0 = end }) ≡ answer.Whole = ap (λ (r : Packs). r.answer) e in
-    never (cc)
-
 -- what is in front of a pack that was read
 Front : (k : ℕ) (l : List ℕ) (slots : List Pack) → Type 0
-Front k l slots = (s limit : ℕ) (found : List Pack) → s < length l → read_back k (take s l) limit found ≡ whole_of slots → Made (take s l) limit found slots
+Front k l slots = (s limit : ℕ) (found : List Pack) → s < length l → read_back k (take s l) limit found ≡ Ok slots → Made (take s l) limit found slots
 
 by_last : (k : ℕ) (l : List ℕ) (limit : ℕ) (found slots : List Pack) → Bytes l → Front k l slots
-    → (r : Last) → last_pack l limit ≡ r → and_in_front (read_back k) l found r ≡ whole_of slots → Made l limit found slots
+    → (r : Result (Place × Profile) Refusal) → last_pack l limit ≡ r → and_in_front (read_back k) l found r ≡ Ok slots → Made l limit found slots
 unfolding Front
-by_last k l limit found slots small front (Refused why) q c = absurd (not_refused why (length l) slots c)
-by_last k l limit found slots small front (Found s p) q c =
+by_last k l limit found slots small front (Err why) q c = absurd (never (cc))
+by_last k l limit found slots small front (Ok (s, p)) q c =
     let g = good l limit s p q in
     more l small limit s p q found slots (front s.0 p.slot (set found (p.slot - 1) (fitted_pack s p)) (omega arith) c)
 
 by_length : (k : ℕ) (l : List ℕ) (limit : ℕ) (found slots : List Pack) → Bytes l → Front k l slots
     → (t : Bool) → eqb (length l) 0 ≡ t
-    → (if t then whole_of found else and_in_front (read_back k) l found (last_pack l limit)) ≡ whole_of slots → Made l limit found slots
+    → (if t then Ok found else and_in_front (read_back k) l found (last_pack l limit)) ≡ Ok slots → Made l limit found slots
 by_length k l limit found slots small front true q c =
-    record { contents = []; bytes = empty_list l (eqb-true _ _ q); standing = tt; table = ap (λ (r : Packs). r.slots) (sym c) }
+    record { contents = []; bytes = empty_list l (eqb-true _ _ q); standing = tt; table = ap (λ (r : Result (List Pack) Refused). result_unwrap_or r slots) (sym c) }
 by_length k l limit found slots small front false q c = by_last k l limit found slots small front (last_pack l limit) refl c
 
-made : (k : ℕ) (l : List ℕ) (limit : ℕ) (found slots : List Pack) → Bytes l → length l < k → read_back k l limit found ≡ whole_of slots → Made l limit found slots
+made : (k : ℕ) (l : List ℕ) (limit : ℕ) (found slots : List Pack) → Bytes l → length l < k → read_back k l limit found ≡ Ok slots → Made l limit found slots
 unfolding read_back Front
 made zero l limit found slots small h e = absurd (omega arith)
 made (suc k) l limit found slots small h e =
@@ -149,17 +139,17 @@ made (suc k) l limit found slots small h e =
     (eqb (length l) 0) refl e
 
 -- a file of bytes that reads whole is made of packs that stand, and each slot holds what was read
-pub file_read : (l : List ℕ) (slots : List Pack) → Bytes l → read_all l ≡ whole_of slots → Made l 8 no_packs slots
+pub file_read : (l : List ℕ) (slots : List Pack) → Bytes l → read_all l ≡ Ok slots → Made l 8 no_packs slots
 unfolding read_all
 file_read l slots small e = by_size (ltb longest_file (length l)) e
   where
-    by_size : (t : Bool) → (if t then refused_at Large 0 else read_back (suc (length l)) l 8 no_packs) ≡ whole_of slots → Made l 8 no_packs slots
-    by_size true c = absurd (not_refused Large 0 slots c)
+    by_size : (t : Bool) → (if t then refused_at Large 0 else read_back (suc (length l)) l 8 no_packs) ≡ Ok slots → Made l 8 no_packs slots
+    by_size true c = absurd (never (cc))
     by_size false c = made (suc (length l)) l 8 no_packs slots small (omega arith) c
 
 -- a pack laid into a part reads back as itself
 pub laid_reads : (p : Profile) (l : List ℕ) → valid_b p ≡ true → pack_length p ≤ longest_file → pack_length p ≤ length l
-    → read_all (take (pack_length p) (laid_bytes p l)) ≡ whole_of (set no_packs (p.slot - 1) (fitted_pack (record { 0 = 0 }) p))
+    → read_all (take (pack_length p) (laid_bytes p l)) ≡ Ok (set no_packs (p.slot - 1) (fitted_pack (record { 0 = 0 }) p))
 laid_reads p l v small room =
     let m = medium_of p.shape in
     let x : Contents = record { profile = p; medium = replicate m 0 } in

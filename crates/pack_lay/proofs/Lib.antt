@@ -1,4 +1,3 @@
-pub mod LaidLists
 pub mod Written
 pub mod Laying
 pub mod Staged

@@ -16,10 +16,9 @@ use Rattle.pack_profile.specs.Valid.{valid_b}
 use Rattle.pack_trailer.specs.Form.{trailer_length, form_place, distance_place}
 use Rattle.pack_trailer.specs.Fields.{profile_of}
 use Rattle.pack_trailer.proofs.RoundTrip.{read_laid}
-use Rattle.pack_read.specs.declared.read.Reading.TheVariants as answer
 use Rattle.pack_read.specs.Read.{read_all}
 use Rattle.pack_read.proofs.Back.{good, last_trailer, ends}
-use Rattle.pack_lay.specs.declared.Laid.TheVariants.{Done}
+use Rattle.std.specs.Prelude.{Ok, IsOk}
 use Rattle.pack_lay.specs.Lay.{pack_length, laid_answer, pack_trailer, laid_pack}
 use Rattle.pack_lay.specs.Order.{writes_of, written, pulled_after}
 use Rattle.pack_lay.proofs.Written.{length_written, take_from, written_first}
@@ -32,7 +31,7 @@ take_short (suc i) (x ∷ l) = omega (arith, take_short i l)
 
 -- what ends in a trailer whose form is 0 is refused, whatever else stands there and in front of it
 pub spoiled_refused : (front x : List ℕ) (m : ℕ) → length x ≡ m + trailer_length → one x (m + form_place) ≡ 0
-    → (read_all (front ++ x)).answer ≡ answer.Whole → ⊥
+    → IsOk (read_all (front ++ x)) → ⊥
 spoiled_refused front x m long spoiled whole =
     let file = front ++ x in
     let n = length-append front x in
@@ -73,7 +72,7 @@ module _ (p : Profile) where
       rw e (drop_at (front ++ replicate m 0) (fields ++ y) k long)
 
   -- where all but the distance is the pack's, any four bytes that read are its distance
-  pub finished : (front y : List ℕ) → valid_b p ≡ true → length y ≡ 4 → Bytes y → (read_all (front ++ (undone ++ y))).answer ≡ answer.Whole → y ≡ distance
+  pub finished : (front y : List ℕ) → valid_b p ≡ true → length y ≡ 4 → Bytes y → IsOk (read_all (front ++ (undone ++ y))) → y ≡ distance
   unfolding profile_of
   finished front y v n small whole =
       let file = front ++ (undone ++ y) in
@@ -85,7 +84,7 @@ module _ (p : Profile) where
       let same : h.profile ≡ p = g.profile ∙ rw t (read_laid p (pack_length p) v) in
       four_bytes y small n ∙ ap bytes4 (rw (t, same) at g.size)
 
-module _ (p : Profile) (l : List ℕ) (ok : laid_answer p (length l) ≡ Done) where
+module _ (p : Profile) (l : List ℕ) (ok : laid_answer p (length l) ≡ Ok tt) where
   -- the form spoiled
   abbrev spoiled : List ℕ
   spoiled = set l (m p + form_place) 0
@@ -150,7 +149,7 @@ module _ (p : Profile) (l : List ℕ) (ok : laid_answer p (length l) ≡ Done) w
         (bytes_append (take i (distance p)) _ (bytes_take i (distance p) (bytes_four (pack_length p))) (λ j. rw get_or-drop (small _)))
 
   by_form : (front : List ℕ) → Bytes l → (k : ℕ) (t : Bool) → leb k (m p + form_place) ≡ t
-      → (read_all (front ++ pulled_after (suc k) p l)).answer ≡ answer.Whole → pulled_after (suc k) p l ≡ laid_pack p
+      → IsOk (read_all (front ++ pulled_after (suc k) p l)) → pulled_after (suc k) p l ≡ laid_pack p
   by_form front small k true few whole =
       absurd (spoiled_refused front (pulled_after (suc k) p l) (m p) (cut_length (suc k)) (no_form k (leb-true k (m p + form_place) few)) whole)
   by_form front small k false many whole =
@@ -161,7 +160,7 @@ module _ (p : Profile) (l : List ℕ) (ok : laid_answer p (length l) ≡ Done) w
       is ∙ ap (λ (y : List ℕ). undone p ++ y) last ∙ sym (laid_is p)
 
 -- for any pack that may be laid, any bytes that stood there, any file in front, and any number of the writes but none
-pub pulled_reads : (p : Profile) (front l : List ℕ) → laid_answer p (length l) ≡ Done → Bytes l → (count : ℕ) → 0 < count
-    → (read_all (front ++ pulled_after count p l)).answer ≡ answer.Whole → pulled_after count p l ≡ laid_pack p
+pub pulled_reads : (p : Profile) (front l : List ℕ) → laid_answer p (length l) ≡ Ok tt → Bytes l → (count : ℕ) → 0 < count
+    → IsOk (read_all (front ++ pulled_after count p l)) → pulled_after count p l ≡ laid_pack p
 pulled_reads p front l ok small zero some whole = absurd (omega arith)
 pulled_reads p front l ok small (suc k) some whole = by_form p l ok front small k (leb k (m p + form_place)) refl whole

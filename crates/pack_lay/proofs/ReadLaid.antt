@@ -14,9 +14,8 @@ use Rattle.pack_profile.specs.Valid.{valid_b}
 use Rattle.pack_trailer.proofs.RoundTrip.{read_laid}
 use Rattle.counts.proofs.Bytes.{four_back}
 use Rattle.pack_read.specs.declared.Pack.{Pack}
-use Rattle.pack_read.specs.declared.read.Packs.{Packs}
-use Rattle.pack_read.specs.declared.read.Last.TheVariants.{Found}
-use Rattle.pack_read.specs.declared.read.Reading.TheVariants as answer
+use Rattle.pack_read.specs.declared.read.Refused.{Refused}
+use Rattle.std.specs.Prelude.{Result, Ok}
 use Rattle.pack_read.specs.Packs.{longest_file, no_packs}
 use Rattle.pack_read.specs.Read.{verdict_of, checked, last_pack, read_all}
 use Rattle.pack_read.specs.File.{Contents, pack_bytes, file_of, first_slot, Standing, slots_of}
@@ -40,7 +39,7 @@ module _ (front : List ℕ) (x : Contents) (limit : ℕ) where
   module _ (v : valid_b x.profile ≡ true) (m : length x.medium ≡ medium_of x.profile.shape)
       (small : length (front ++ pack_bytes x) ≤ longest_file) (below : x.profile.slot < limit) where
     checked_there : checked (trailer_of x.profile (length x.medium + trailer_length)) (length (front ++ pack_bytes x)) limit
-        ≡ Found (record { 0 = length (front ++ pack_bytes x) - (length x.medium + trailer_length) }) x.profile
+        ≡ Ok (record { 0 = length (front ++ pack_bytes x) - (length x.medium + trailer_length) }, x.profile)
     unfolding verdict_of
     checked_there =
         let n = length (front ++ pack_bytes x) in
@@ -51,15 +50,15 @@ module _ (front : List ℕ) (x : Contents) (limit : ℕ) where
         (sym (four_back d (omega arith))) refl (sym (read_laid x.profile d v)) refl (sym v) m refl)
         ∙ simp (le-ltb d trailer_length (omega arith), le-ltb n d (omega arith), eq-eqb d (length x.medium + trailer_length) refl, lt-leb limit x.profile.slot below)
 
-    pub last_there : last_pack (front ++ pack_bytes x) limit ≡ Found (record { 0 = length front }) x.profile
+    pub last_there : last_pack (front ++ pack_bytes x) limit ≡ Ok (record { 0 = length front }, x.profile)
     unfolding last_pack
     last_there =
         let e = whole in
         rw (le-ltb (length (front ++ pack_bytes x)) trailer_length (omega arith), trailer_there)
-        (checked_there ∙ ap (λ (s : ℕ). Found (record { 0 = s }) x.profile) (omega arith))
+        (checked_there ∙ ap (λ (s : ℕ). Ok (record { 0 = s }, x.profile)) (omega arith))
 
 -- the packs behind a front are read one by one; what is left is the front, below the first pack's slot
-pub reads_file : (xs : List Contents) (front : List ℕ) (limit : ℕ) (found : List Pack) (r : Packs)
+pub reads_file : (xs : List Contents) (front : List ℕ) (limit : ℕ) (found : List Pack) (r : Result (List Pack) Refused)
     → Standing xs limit → length (front ++ file_of xs) ≤ longest_file
     → Reads front (first_slot xs limit) (slots_of xs (length front) found) r → Reads (front ++ file_of xs) limit found r
 reads_file [] front limit found r s small h = rw append-nil h
@@ -76,7 +75,7 @@ reads_file (x ∷ xs) front limit found r (v, m, below, s) small h =
 
 -- any profiles with rising slots, each valid, any media of the right lengths
 pub read_file : (xs : List Contents) → Standing xs 8 → length (file_of xs) ≤ longest_file
-    → read_all (file_of xs) ≡ record { answer = answer.Whole; slots = slots_of xs 0 no_packs }
+    → read_all (file_of xs) ≡ Ok (slots_of xs 0 no_packs)
 unfolding read_all
 read_file xs s small =
     rw (le-ltb longest_file (length (file_of xs)) small)

@@ -2,13 +2,13 @@
 use mathlib.Core.Path.{◌≡◌, refl, sym, ap, ◌∙◌}
 use mathlib.Core.Bool.{Bool, true, false, not}
 use mathlib.Core.List.{List, [], ◌∷◌, ◌++◌, append_assoc}
-use Prim.Native.Nat.{ℕ, ◌+◌, ◌≤◌}
+use Prim.Native.Nat.{ℕ, ◌+◌, ◌-◌, ◌≤◌}
 use native.Mathlib.Omega.{arith}
 use borrow.Author.Tests.{ltb-false, not-false}
 use lib.Dec.{ltb}
 use lib.ListN.{length, take, drop, set, replicate, length-set, length-append, length-replicate}
-use lib.Seq.{drop-set-lt}
-use Rattle.std.specs.Prelude.{if◌then◌else◌}
+use lib.Seq.{drop-set-lt, drop-drop, length-take-le}
+use Rattle.std.specs.Prelude.{if◌then◌else◌, Result, Ok, Err}
 use Rattle.counts.proofs.Choice.{never}
 use Rattle.pack_profile.specs.declared.Profile.{Profile}
 use Rattle.pack_profile.specs.Profile.{medium_of}
@@ -17,8 +17,6 @@ use Rattle.pack_trailer.specs.Form.{trailer_length, form_place, distance_place}
 use Rattle.pack_read.specs.declared.Refusal.{Refusal}
 use Rattle.pack_read.specs.declared.Refusal.TheVariants.{Field, Large, Room}
 use Rattle.pack_read.specs.Packs.{longest_file}
-use Rattle.pack_lay.specs.declared.Laid.{Laid}
-use Rattle.pack_lay.specs.declared.Laid.TheVariants.{Done, Refused}
 use Rattle.pack_lay.specs.declared.stages.Stage.{Stage}
 use Rattle.pack_lay.specs.declared.stages.Stage.TheVariants.{Spoil, Medium, Fields, Distance}
 use Rattle.pack_lay.specs.Lay.{pack_length, laid_answer, pack_trailer, laid_pack, after_laying, laid_bytes}
@@ -26,7 +24,7 @@ use Rattle.pack_lay.specs.Order.{Write, from, stage_writes, writes_of, written, 
 use Rattle.pack_lay.proofs.Written.{written_append, length_written, from_three, written_from, written_first}
 
 -- a pack is laid where no test refused it
-allowed : (b : Bool) (why : Refusal) (y : Laid) → (if b then Refused why else y) ≡ Done → (b ≡ false) × (y ≡ Done)
+allowed : (b : Bool) (why : Refusal) (y : Result (Unit {0}) Refusal) → (if b then Err why else y) ≡ Ok tt → (b ≡ false) × (y ≡ Ok tt)
 allowed true why y e = absurd (never (cc))
 allowed false why y e = (refl, e)
 
@@ -36,7 +34,7 @@ pub record May (p : Profile) (room : ℕ) : Type 0 where
   pub small : pack_length p ≤ longest_file
   pub fits : pack_length p ≤ room
 
-pub may : (p : Profile) (room : ℕ) → laid_answer p room ≡ Done → May p room
+pub may : (p : Profile) (room : ℕ) → laid_answer p room ≡ Ok tt → May p room
 unfolding laid_answer
 may p room e =
     let a = allowed (not (valid_b p)) Field _ e in
@@ -67,22 +65,27 @@ module _ (p : Profile) where
       (written_first (laid_pack p) (set l (medium_of p.shape + form_place) 0) (pack_length p) (laid_length p) (omega (arith, length-set l (medium_of p.shape + form_place) 0))
       ∙ ap (λ (r : List ℕ). laid_pack p ++ r) (drop-set-lt (pack_length p) l (medium_of p.shape + form_place) 0 (omega arith)))
 
-  after_length : (a : Laid) (ws : List Write) (l : List ℕ) → length (after_writes a ws l) ≡ length l
-  after_length Done ws l = length_written ws l
-  after_length (Refused why) ws l = refl
+  after_length : (a : Result (Unit {0}) Refusal) (ws : List Write) (l : List ℕ) → length (after_writes a ws l) ≡ length l
+  after_length (Ok done) ws l = length_written ws l
+  after_length (Err why) ws l = refl
 
-  after_none : (a : Laid) (l : List ℕ) → l ≡ after_writes a [] l
+  after_none : (a : Result (Unit {0}) Refusal) (l : List ℕ) → l ≡ after_writes a [] l
   unfolding written
-  after_none Done l = refl
-  after_none (Refused why) l = refl
+  after_none (Ok done) l = refl
+  after_none (Err why) l = refl
 
-  after_both : (a : Laid) (ws vs : List Write) (l : List ℕ) → after_writes a vs (after_writes a ws l) ≡ after_writes a (ws ++ vs) l
-  after_both Done ws vs l = sym (written_append ws vs l)
-  after_both (Refused why) ws vs l = refl
+  after_both : (a : Result (Unit {0}) Refusal) (ws vs : List Write) (l : List ℕ) → after_writes a vs (after_writes a ws l) ≡ after_writes a (ws ++ vs) l
+  after_both (Ok done) ws vs l = sym (written_append ws vs l)
+  after_both (Err why) ws vs l = refl
 
-  after_all : (l : List ℕ) (a : Laid) → laid_answer p (length l) ≡ a → after_writes a (writes_of p) l ≡ after_laying a p l
-  after_all l Done e = all_written l (may p (length l) e).fits
-  after_all l (Refused why) e = refl
+  after_all : (l : List ℕ) (a : Result (Unit {0}) Refusal) → laid_answer p (length l) ≡ a → after_writes a (writes_of p) l ≡ after_laying a p l
+  after_all l (Ok done) e = all_written l (may p (length l) e).fits
+  after_all l (Err why) e = refl
+
+  -- a refused stage leaves what a refused laying leaves
+  pub stage_refused : (s : Stage) (l : List ℕ) (why : Refusal) → laid_answer p (length l) ≡ Err why → staged_bytes s p l ≡ laid_bytes p l
+  unfolding staged_bytes laid_bytes
+  stage_refused s l why e = rw e
 
   -- a stage writes its stretch behind the writes that were done, and is answered as the laying
   further : (s : Stage) (ws : List Write) (l before after : List ℕ) → before ≡ after_writes (laid_answer p (length l)) ws l → after ≡ staged_bytes s p before
@@ -125,20 +128,25 @@ module _ (p : Profile) (l : List ℕ) (m : ℕ) (is : m ≡ medium_of p.shape) (
   unfolding written stage_writes
   spoil_written = ap (λ (n : ℕ). set l (n + form_place) 0) is
 
-  pub medium_written : (e : List ℕ) → e ≡ replicate m 0 ++ drop m l → e ≡ written (stage_writes Medium p) l
+  pub medium_written : (x : List ℕ) → x ≡ replicate (length (take m l)) 0 → x ++ drop m l ≡ written (stage_writes Medium p) l
   unfolding stage_writes
-  medium_written e zeroed =
-      zeroed ∙ ap (λ (n : ℕ). replicate n 0 ++ drop n l) is
-      ∙ sym (written_first (replicate (medium_of p.shape) 0) l (medium_of p.shape) (length-replicate (medium_of p.shape) 0) (omega arith))
+  medium_written x zeroed =
+      rw (zeroed, length-take-le m l (omega arith)) (ap (λ (n : ℕ). replicate n 0 ++ drop n l) is
+      ∙ sym (written_first (replicate (medium_of p.shape) 0) l (medium_of p.shape) (length-replicate (medium_of p.shape) 0) (omega arith)))
 
-  module _ (t : List ℕ) (all : t ≡ pack_trailer p) (e : List ℕ) where
-    pub fields_written : e ≡ take m l ++ take distance_place t ++ drop (m + length (take distance_place t)) l → e ≡ written (stage_writes Fields p) l
+  laid : (bs : List ℕ) (at : ℕ) → at + length bs ≤ length l → take at l ++ (bs ++ drop (at + length bs) l) ≡ written (from at bs) l
+  laid bs at room = sym (written_from bs l at room ∙ append_assoc (take at l) bs (drop (at + length bs) l))
+
+  module _ (t : List ℕ) (all : t ≡ pack_trailer p) (x : List ℕ) where
+    pub fields_written : x ≡ take distance_place t → take m l ++ (x ++ drop (m + distance_place - m) (drop m l)) ≡ written (stage_writes Fields p) l
     unfolding stage_writes
     fields_written put =
-        put ∙ rw (all, is) (sym (written_from (take distance_place (pack_trailer p)) l (medium_of p.shape) (omega arith)))
+        let n : m + distance_place - m ≡ distance_place = omega arith in
+        rw (put, n, drop-drop distance_place m l, all, is) (laid (take distance_place (pack_trailer p)) (medium_of p.shape) (omega arith))
 
-    pub distance_written : e ≡ take (m + distance_place) l ++ take 4 (drop distance_place t) ++ drop (m + distance_place + length (take 4 (drop distance_place t))) l
-        → e ≡ written (stage_writes Distance p) l
+    pub distance_written : x ≡ take 4 (drop distance_place t)
+        → take (m + distance_place) l ++ (x ++ drop (m + trailer_length - (m + distance_place)) (drop (m + distance_place) l)) ≡ written (stage_writes Distance p) l
     unfolding stage_writes
     distance_written put =
-        put ∙ rw (all, is) (sym (written_from (drop distance_place (pack_trailer p)) l (medium_of p.shape + distance_place) (omega arith)))
+        let n : m + trailer_length - (m + distance_place) ≡ 4 = omega arith in
+        rw (put, n, drop-drop 4 (m + distance_place) l, all, is) (laid (drop distance_place (pack_trailer p)) (medium_of p.shape + distance_place) (omega arith))

@@ -1,11 +1,10 @@
 -- Document 02, request 4: "Zero the medium first and write the trailer after it, its back distance last of all. The
 -- buffer's final bytes don't change."
-use Rattle.std.specs.Prelude.{◌≡◌, ℕ, suc, ◌+◌, List, [], ◌∷◌, ◌++◌, length, replicate, take, drop, set}
+use Rattle.std.specs.Prelude.{Result, Ok, Err, ◌≡◌, ℕ, suc, ◌+◌, List, [], ◌∷◌, ◌++◌, length, replicate, take, drop, set}
 use Rattle.pack_profile.specs.declared.Profile.{Profile}
 use Rattle.pack_profile.specs.Profile.{medium_of}
 use Rattle.pack_trailer.specs.Form.{form_place, distance_place}
-use Rattle.pack_lay.specs.declared.Laid.{Laid}
-use Rattle.pack_lay.specs.declared.Laid.TheVariants.{Done, Refused}
+use Rattle.pack_read.specs.declared.Refusal.{Refusal}
 use Rattle.pack_lay.specs.declared.stages.Stage.{Stage}
 use Rattle.pack_lay.specs.declared.stages.Stage.TheVariants.{Spoil, Medium, Fields, Distance}
 use Rattle.pack_lay.specs.Lay.{pack_length, laid_answer, pack_trailer}
@@ -37,9 +36,9 @@ written [] l = l
 written (w ∷ ws) l = written ws (set l w.place w.byte)
 
 -- writes done where the pack may be laid, none where it is refused
-abbrev pub after_writes : Laid → List Write → List ℕ → List ℕ
-after_writes Done ws l = written ws l
-after_writes (Refused why) ws l = l
+abbrev pub after_writes : Result (Unit {0}) Refusal → List Write → List ℕ → List ℕ
+after_writes (Ok done) ws l = written ws l
+after_writes (Err why) ws l = l
 
 unfoldable pub staged_bytes : Stage → Profile → List ℕ → List ℕ
 staged_bytes s p l = after_writes (laid_answer p (length l)) (stage_writes s p) l

@@ -11,24 +11,20 @@ use pack_profile::Profile;
 use pack_read::Refusal;
 use stages::Stage;
 
-#[derive(Clone, Copy)]
-pub enum Laid {
-    Done,
-    Refused(Refusal),
-}
-
 // Document 01's number of an answer; 0 where the pack was laid.
-pub fn number(a: Laid) -> u8
+// Stays: no plainer: Result and u8 are std's, so a From may stand in no crate here, and a type around it is taken off at once.
+pub fn number(a: Result<(), Refusal>) -> u8
     ensures { result ≡ laid_number a }
 {
     match a {
-        Laid::Done => 0,
-        Laid::Refused(why) => pack_read::number(why),
+        Ok(()) => 0,
+        Err(why) => why.into(),
     }
 }
 
 // A stage in its turn: a laying out of order leaves the same bytes, and fails here.
-fn in_turn(p: Profile, s: Stage, buffer: &mut [u8]) -> Laid
+// Stays: lay_stage is public and named with these three; in_turn and write hand them on.
+fn in_turn(p: Profile, s: Stage, buffer: &mut [u8]) -> Result<(), Refusal>
     requires { Turn s p buffer.old }
     ensures { (result ≡ laid_answer p (length buffer.old)) × (buffer.new ≡ staged_bytes s p buffer.old) }
 {
@@ -36,11 +32,11 @@ fn in_turn(p: Profile, s: Stage, buffer: &mut [u8]) -> Laid
 }
 
 // A zeroed medium and the trailer, stage by stage; a refusal leaves the part as it was.
-pub fn lay(p: Profile, buffer: &mut [u8]) -> Laid
+pub fn lay(p: Profile, buffer: &mut [u8]) -> Result<(), Refusal>
     ensures { (result ≡ laid_answer p (length buffer.old)) × (buffer.new ≡ laid_bytes p buffer.old) }
 {
-    in_turn(p, Stage::Spoil, buffer);
-    in_turn(p, Stage::Medium, buffer);
-    in_turn(p, Stage::Fields, buffer);
+    in_turn(p, Stage::Spoil, buffer)?;
+    in_turn(p, Stage::Medium, buffer)?;
+    in_turn(p, Stage::Fields, buffer)?;
     in_turn(p, Stage::Distance, buffer)
 }

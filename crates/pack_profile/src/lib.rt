@@ -10,7 +10,7 @@ ghost use Rattle.pack_profile.specs.Profile.{blank_profile, Medium};
 use counts::{Cylinder, Heads, Micros, PerCylinder, Position, SectorSize};
 
 #[repr(C)]
-#[derive(Clone, Copy)]
+#[derive(Clone, Copy, Default)]
 pub struct Shape {
     pub cylinders: Cylinder,
     pub heads: Heads,
@@ -19,7 +19,7 @@ pub struct Shape {
 }
 
 #[repr(C)]
-#[derive(Clone, Copy)]
+#[derive(Clone, Copy, Default)]
 pub struct Times {
     pub settle: Micros,
     pub step: PerCylinder,
@@ -31,8 +31,9 @@ pub struct Times {
 }
 
 // protected, 0 or 1, has two bytes so that no byte is padding.
+// Stays: the C interface, where protected is a number.
 #[repr(C)]
-#[derive(Clone, Copy)]
+#[derive(Clone, Copy, Default)]
 pub struct Profile {
     pub slot: u8,
     pub vendor: u8,
@@ -77,32 +78,7 @@ impl Profile {
     pub fn blank() -> Profile
         ensures { result ≡ blank_profile }
     {
-        let none = Micros(0);
-        let shape = Shape {
-            cylinders: Cylinder(0),
-            heads: Heads(0),
-            track: Position(0),
-            sector: SectorSize(0),
-        };
-        let times = Times {
-            settle: none,
-            step: PerCylinder(0),
-            switch: none,
-            recalibrate: none,
-            start: none,
-            diagnostic: none,
-            offset: none,
-        };
-        Profile {
-            slot: 0,
-            vendor: 0,
-            general: 0,
-            gap: 0,
-            sync: 0,
-            protected: 0,
-            shape,
-            times,
-        }
+        Profile::default()
     }
 }
 

@@ -1,9 +1,8 @@
 -- "Refusals, with the pack's end as place (0 for 36)": the paper's number of each.
-use Rattle.std.specs.Prelude.{ℕ}
+use Rattle.std.specs.Prelude.{ℕ, Result, Ok, Err}
 use Rattle.pack_read.specs.declared.Refusal.{Refusal}
 use Rattle.pack_read.specs.declared.Refusal.TheVariants.{Short, Distance, Form, Field, Size, Order, Large, Room}
-use Rattle.pack_read.specs.declared.read.Reading.{Reading}
-use Rattle.pack_read.specs.declared.read.Reading.TheVariants as answer
+use Rattle.pack_read.specs.declared.read.Refused.{Refused}
 
 abbrev pub refusal_number : Refusal → ℕ
 refusal_number Short = 30  -- "fewer than 44 bytes left"
@@ -16,10 +15,10 @@ refusal_number Large = 36  -- "file over 2,147,483,647 bytes"
 refusal_number Room = 37  -- "too little room"
 
 -- 0 where nothing is refused
-abbrev pub read_number : Reading → ℕ
-read_number answer.Whole = 0
-read_number (answer.Refused why place) = refusal_number why
+abbrev pub read_number : {A : Type 0} → Result A Refused → ℕ
+read_number (Ok found) = 0
+read_number (Err refused) = refusal_number refused.why
 
-abbrev pub read_place : Reading → ℕ
-read_place answer.Whole = 0
-read_place (answer.Refused why place) = place.0
+abbrev pub read_place : {A : Type 0} → Result A Refused → ℕ
+read_place (Ok found) = 0
+read_place (Err refused) = refused.place.0

@@ -24,24 +24,27 @@ pub enum Refusal {
 }
 
 // Document 01's number of a refusal.
-pub fn number(why: Refusal) -> u8
-    ensures { result ≡ refusal_number why }
-{
-    match why {
-        Refusal::Short => 30,
-        Refusal::Distance => 31,
-        Refusal::Form => 32,
-        Refusal::Field => 33,
-        Refusal::Size => 34,
-        Refusal::Order => 35,
-        Refusal::Large => 36,
-        Refusal::Room => 37,
+impl From<Refusal> for u8 {
+    ghost from_gives = { λ why n. n ≡ refusal_number why };
+
+    fn from(why: Refusal) -> u8 {
+        match why {
+            Refusal::Short => 30,
+            Refusal::Distance => 31,
+            Refusal::Form => 32,
+            Refusal::Field => 33,
+            Refusal::Size => 34,
+            Refusal::Order => 35,
+            Refusal::Large => 36,
+            Refusal::Room => 37,
+        }
     }
 }
 
 // A slot's pack: where in the file its medium starts, and its fields. fitted, 0 or 1, has four bytes so that none is padding.
+// Stays: the C interface, where fitted is a number.
 #[repr(C)]
-#[derive(Clone, Copy)]
+#[derive(Clone, Copy, Default)]
 pub struct Pack {
     pub fitted: u32,
     pub place: Place,
@@ -56,12 +59,7 @@ impl Pack {
     pub fn none() -> Pack
         ensures { result ≡ no_pack }
     {
-        let profile = Profile::blank();
-        Pack {
-            fitted: 0,
-            place: Place(0),
-            profile,
-        }
+        Pack::default()
     }
 }
 

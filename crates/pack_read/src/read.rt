@@ -2,118 +2,77 @@
 ghost use Rattle.std.specs.Prelude.{◌≡◌, ℕ, ◌-◌, ◌≤◌, ◌<◌, length, set};
 ghost use Rattle.pack_read.specs.Refusal.{read_number, read_place};
 ghost use Rattle.pack_read.specs.Packs.{no_packs, fitted_pack};
-ghost use Rattle.pack_read.specs.Read.{verdict_of, checked, last_pack, refused_at, read_back, read_all};
+ghost use Rattle.pack_read.specs.Read.{checked, last_pack, read_back, read_all};
 
 use crate::{Pack, Refusal};
 use counts::{Place, SLOTS};
 use pack_profile::Profile;
 
+// Why a file is refused, and where the pack ends that is; 0 where the file is too long.
 #[derive(Clone, Copy)]
-pub enum Reading {
-    Whole,
-    Refused(Refusal, Place),
+pub struct Refused {
+    pub why: Refusal,
+    pub place: Place,
 }
 
 // Document 01's number of an answer; 0 where nothing is refused.
-pub fn number(a: Reading) -> u8
+// Stays: no plainer: Result and u8 are std's, so a From may stand in no crate here, and a type around it is taken off at once.
+pub fn number<T: Drop>(a: Result<T, Refused>) -> u8
     ensures { result ≡ read_number a }
 {
     match a {
-        Reading::Whole => 0,
-        Reading::Refused(why, _) => crate::number(why),
+        Ok(_) => 0,
+        Err(refused) => refused.why.into(),
     }
 }
 
 // The place that an answer names; 0 where nothing is refused.
-pub fn place(a: Reading) -> u32
+// Stays: no plainer: Result and u32 are std's, so a From may stand in no crate here, and a type around it is taken off at once.
+pub fn place<T: Drop>(a: Result<T, Refused>) -> u32
     ensures { result ≡ read_place a }
 {
     match a {
-        Reading::Whole => 0,
-        Reading::Refused(_, at) => at.0,
+        Ok(_) => 0,
+        Err(refused) => refused.place.0,
     }
 }
 
-// What reading found: each pack at its slot, or nothing where the file is refused.
-#[derive(Clone, Copy)]
-pub struct Packs {
-    pub answer: Reading,
-    pub slots: [Pack; SLOTS],
-}
-
-// The last pack of a file: where it starts, with its fields; or why it is refused.
-#[derive(Clone, Copy)]
-pub enum Last {
-    Found(Place, Profile),
-    Refused(Refusal),
-}
-
-// The pack that ends at n: d is its distance, good whether its fields may stand, medium what they say of its medium,
-// limit the slot of the pack behind it.
-#[tactic(auto, unfolding(crate::specs::Read::verdict_of))]
-fn verdict(n: u32, limit: u8, d: u32, form: u8, good: bool, medium: usize, p: Profile) -> Last
-    requires { medium < 281_474_976_710_656 }
-    ensures { result ≡ verdict_of n limit d form good medium p }
-{
-    if (d as usize) < pack_trailer::LENGTH {
-        return Last::Refused(Refusal::Distance);
-    }
-    if n < d {
-        return Last::Refused(Refusal::Distance);
-    }
-    if form != pack_trailer::FORM {
-        return Last::Refused(Refusal::Form);
-    }
-    if !good {
-        return Last::Refused(Refusal::Field);
-    }
-    if d as usize != medium + pack_trailer::LENGTH {
-        return Last::Refused(Refusal::Size);
-    }
-    if limit <= p.slot {
-        return Last::Refused(Refusal::Order);
-    }
-    Last::Found(Place(n - d), p)
-}
-
-// The pack with the trailer t that ends at n.
-fn check(t: &[u8], n: u32, limit: u8) -> Last
+// The pack with the trailer t that ends at n, limit the slot of the pack behind it: where it starts, with its fields.
+#[tactic(auto, unfolding(crate::specs::Read::checked, crate::specs::Read::verdict_of))]
+fn check(t: &[u8], n: u32, limit: u8) -> Result<(Place, Profile), Refusal>
     ensures { result ≡ checked t.now n limit }
 {
     let d = pack_trailer::distance_of(t);
-    let form = pack_trailer::form_of(t);
+    if (d as usize) < pack_trailer::LENGTH || n < d {
+        return Err(Refusal::Distance);
+    }
+    if pack_trailer::form_of(t) != pack_trailer::FORM {
+        return Err(Refusal::Form);
+    }
     let p = pack_trailer::profile_of(t);
-    let shape = p.shape;
     let good = pack_trailer::zeros(t) & pack_profile::valid::valid(p);
-    verdict(n, limit, d, form, good, pack_profile::medium(shape), p)
+    if !good {
+        return Err(Refusal::Field);
+    }
+    if d as usize != pack_profile::medium(p.shape) + pack_trailer::LENGTH {
+        return Err(Refusal::Size);
+    }
+    if limit <= p.slot {
+        return Err(Refusal::Order);
+    }
+    Ok((Place(n - d), p))
 }
 
 #[tactic(auto, unfolding(crate::specs::Read::last_pack))]
-fn last_pack(file: &[u8], limit: u8) -> Last
+fn last_pack(file: &[u8], limit: u8) -> Result<(Place, Profile), Refusal>
     requires { length file.now ≤ 2_147_483_647 }
     ensures { result ≡ last_pack file.now limit }
 {
     let n = file.len();
     if n < pack_trailer::LENGTH {
-        return Last::Refused(Refusal::Short);
+        return Err(Refusal::Short);
     }
     check(&file[n - pack_trailer::LENGTH..], n as u32, limit)
-}
-
-fn empty() -> [Pack; SLOTS]
-    ensures { result ≡ no_packs }
-{
-    let none = Pack::none();
-    [none; SLOTS]
-}
-
-fn refused(why: Refusal, end: u32) -> Packs
-    ensures { result ≡ refused_at why end }
-{
-    Packs {
-        answer: Reading::Refused(why, Place(end)),
-        slots: empty(),
-    }
 }
 
 fn stored(found: [Pack; SLOTS], place: Place, p: Profile) -> [Pack; SLOTS]
@@ -131,35 +90,34 @@ fn stored(found: [Pack; SLOTS], place: Place, p: Profile) -> [Pack; SLOTS]
 }
 
 // The last pack is read, then what is left in front of it.
-fn read_back(file: &[u8], limit: u8, found: [Pack; SLOTS]) -> Packs
+fn read_back(file: &[u8], limit: u8, found: [Pack; SLOTS]) -> Result<[Pack; SLOTS], Refused>
     requires { length file.now ≤ 2_147_483_647 }
     ensures { (k : ℕ) → length file.now < k → result ≡ read_back k file.now limit found }
 {
     let n = file.len();
     if n == 0 {
-        return Packs {
-            answer: Reading::Whole,
-            slots: found,
-        };
+        return Ok(found);
     }
-    let last = last_pack(file, limit);
-    match last {
-        Last::Refused(why) => refused(why, n as u32),
-        Last::Found(place, profile) => {
-            let next = stored(found, place, profile);
-            let start = place.0 as usize;
-            read_back(&file[..start], profile.slot, next)
-        }
-    }
+    let (place, profile) = last_pack(file, limit).map_err(|why| Refused {
+        why,
+        place: Place(n as u32),
+    })?;
+    let next = stored(found, place, profile);
+    let start = place.0 as usize;
+    read_back(&file[..start], profile.slot, next)
 }
 
 // The packs of a file, each at its slot, or a refusal with its place.
 #[tactic(auto, unfolding(crate::specs::Read::read_all))]
-pub fn read(file: &[u8]) -> Packs
+pub fn read(file: &[u8]) -> Result<[Pack; SLOTS], Refused>
     ensures { result ≡ read_all file.now }
 {
     if Pack::LONGEST < file.len() {
-        return refused(Refusal::Large, 0);
+        return Err(Refused {
+            why: Refusal::Large,
+            place: Place(0),
+        });
     }
-    read_back(file, 8, empty())
+    let none = Pack::none();
+    read_back(file, 8, [none; SLOTS])
 }

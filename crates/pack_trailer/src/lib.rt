@@ -26,14 +26,14 @@ pub const DISTANCE_PLACE: usize = 40;
 pub fn form_of(t: &[u8]) -> u8
     ensures { result ≡ byte_of t.now 39 }
 {
-    byte(t, 39)
+    byte(t, FORM_PLACE)
 }
 
 // The bytes from the pack's end back to its start.
 pub fn distance_of(t: &[u8]) -> u32
     ensures { result ≡ fourOf t.now 40 }
 {
-    four(t, 40)
+    four(t, DISTANCE_PLACE as u8)
 }
 
 // Whether the bytes that must be zero are.
@@ -91,68 +91,41 @@ pub fn profile_of(t: &[u8]) -> Profile
 fn first_bytes(p: Profile) -> [u8; 16]
     ensures { result ≡ first_bytes p }
 {
-    [
-        p.slot,
-        0,
-        (p.general / 256 % 256) as u8,
-        (p.general % 256) as u8,
-        (p.shape.cylinders.0 / 256 % 256) as u8,
-        (p.shape.cylinders.0 % 256) as u8,
-        (p.shape.heads.0 % 256) as u8,
-        p.vendor,
-        (p.shape.track.0 / 256 % 256) as u8,
-        (p.shape.track.0 % 256) as u8,
-        (p.shape.sector.0 / 256 % 256) as u8,
-        (p.shape.sector.0 % 256) as u8,
-        p.gap,
-        p.sync,
-        (p.protected % 256) as u8,
-        0,
-    ]
+    let mut bytes = [0u8; 16];
+    bytes[0] = p.slot;
+    bytes[2..4].copy_from_slice(&p.general.to_be_bytes());
+    bytes[4..6].copy_from_slice(&p.shape.cylinders.0.to_be_bytes());
+    bytes[6] = p.shape.heads.0.to_be_bytes()[1];
+    bytes[7] = p.vendor;
+    bytes[8..10].copy_from_slice(&p.shape.track.0.to_be_bytes());
+    bytes[10..12].copy_from_slice(&p.shape.sector.0.to_be_bytes());
+    bytes[12] = p.gap;
+    bytes[13] = p.sync;
+    bytes[14] = p.protected.to_be_bytes()[1];
+    bytes
 }
 
 // Places 16 to 37: the times.
 fn time_bytes(t: Times) -> [u8; 22]
     ensures { result ≡ time_bytes t }
 {
-    [
-        (t.settle.0 / 16_777_216 % 256) as u8,
-        (t.settle.0 / 65_536 % 256) as u8,
-        (t.settle.0 / 256 % 256) as u8,
-        (t.settle.0 % 256) as u8,
-        (t.step.0 / 256 % 256) as u8,
-        (t.step.0 % 256) as u8,
-        (t.switch.0 / 256 % 256) as u8,
-        (t.switch.0 % 256) as u8,
-        (t.recalibrate.0 / 16_777_216 % 256) as u8,
-        (t.recalibrate.0 / 65_536 % 256) as u8,
-        (t.recalibrate.0 / 256 % 256) as u8,
-        (t.recalibrate.0 % 256) as u8,
-        (t.start.0 / 16_777_216 % 256) as u8,
-        (t.start.0 / 65_536 % 256) as u8,
-        (t.start.0 / 256 % 256) as u8,
-        (t.start.0 % 256) as u8,
-        (t.diagnostic.0 / 16_777_216 % 256) as u8,
-        (t.diagnostic.0 / 65_536 % 256) as u8,
-        (t.diagnostic.0 / 256 % 256) as u8,
-        (t.diagnostic.0 % 256) as u8,
-        (t.offset.0 / 256 % 256) as u8,
-        (t.offset.0 % 256) as u8,
-    ]
+    let mut bytes = [0u8; 22];
+    bytes[..4].copy_from_slice(&t.settle.0.to_be_bytes());
+    bytes[4..6].copy_from_slice(&t.step.0.to_be_bytes()[2..]);
+    bytes[6..8].copy_from_slice(&t.switch.0.to_be_bytes()[2..]);
+    bytes[8..12].copy_from_slice(&t.recalibrate.0.to_be_bytes());
+    bytes[12..16].copy_from_slice(&t.start.0.to_be_bytes());
+    bytes[16..20].copy_from_slice(&t.diagnostic.0.to_be_bytes());
+    bytes[20..].copy_from_slice(&t.offset.0.to_be_bytes()[2..]);
+    bytes
 }
 
 // Places 38 to 43: the form, and the distance to the pack's start.
 fn last_bytes(distance: u32) -> [u8; 6]
     ensures { result ≡ last_bytes distance }
 {
-    [
-        0,
-        FORM,
-        (distance / 16_777_216 % 256) as u8,
-        (distance / 65_536 % 256) as u8,
-        (distance / 256 % 256) as u8,
-        (distance % 256) as u8,
-    ]
+    let [a, b, c, d] = distance.to_be_bytes();
+    [0, FORM, a, b, c, d]
 }
 
 // The 44 bytes of a trailer.

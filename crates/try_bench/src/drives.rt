@@ -2,20 +2,36 @@
 use counts::{Cylinder, Heads, Micros, PerCylinder, Position, SectorSize};
 use pack_profile::{Profile, Shape, Times};
 
-// Five drives of different kinds; slots 3 and 6 are empty.
-pub const MIXED: u8 = 0;
+// The chains that are here.
+#[derive(Clone, Copy)]
+pub enum Drives {
+    // five drives of different kinds; slots 3 and 6 are empty
+    Mixed,
+    // the smallest drive in each of the seven slots
+    Full,
+    // no drive
+    Empty,
+}
 
-// The smallest drive in each of the seven slots.
-pub const FULL: u8 = 1;
+// Any other number is what the last is.
+impl From<u8> for Drives {
+    fn from(number: u8) -> Drives {
+        match number {
+            0 => Drives::Mixed,
+            1 => Drives::Full,
+            _ => Drives::Empty,
+        }
+    }
+}
 
-// No drive.
-pub const NONE: u8 = 2;
-
-pub fn is_fitted(which: u8, slot: u8) -> bool {
-    match which {
-        MIXED => (slot != 3) & (slot != 6),
-        FULL => true,
-        _ => false,
+impl Drives {
+    // The drive that is fitted in a slot.
+    pub fn fitted(self, slot: u8) -> Option<Profile> {
+        match self {
+            Drives::Mixed => mixed(slot),
+            Drives::Full => Some(bus_smallest::drive(slot)),
+            Drives::Empty => None,
+        }
     }
 }
 
@@ -25,19 +41,6 @@ fn shape(cylinders: u16, heads: u16, track: u16, sector: u16) -> Shape {
         heads: Heads(heads),
         track: Position(track),
         sector: SectorSize(sector),
-    }
-}
-
-fn no_times() -> Times {
-    let none = Micros(0);
-    Times {
-        settle: none,
-        step: PerCylinder(0),
-        switch: none,
-        recalibrate: none,
-        start: none,
-        diagnostic: none,
-        offset: none,
     }
 }
 
@@ -66,9 +69,10 @@ fn every_option() -> Profile {
 
 // Removable, soft sectored, the motor option, slow heads; nothing else takes time.
 fn slow_soft() -> Profile {
-    let mut times = no_times();
-    let switch = Micros(20);
-    times.switch = switch;
+    let times = Times {
+        switch: Micros(20),
+        ..Profile::blank().times
+    };
     Profile {
         slot: 2,
         vendor: 0x22,
@@ -83,11 +87,11 @@ fn slow_soft() -> Profile {
 
 // Fixed, protected, hard sectored by the controller, both options; its head switch takes 15 microseconds, the longest that starts no timer.
 fn protected_fixed() -> Profile {
-    let mut times = no_times();
-    let switch = Micros(15);
-    let start = Micros(500);
-    times.switch = switch;
-    times.start = start;
+    let times = Times {
+        switch: Micros(15),
+        start: Micros(500),
+        ..Profile::blank().times
+    };
     Profile {
         slot: 4,
         vendor: 0x44,
@@ -102,10 +106,11 @@ fn protected_fixed() -> Profile {
 
 // Removable, protected, no option, the longest recalibrate and diagnostic times.
 fn protected_removable() -> Profile {
-    let mut times = no_times();
-    let longest = Micros(30_000_000);
-    times.recalibrate = longest;
-    times.diagnostic = longest;
+    let times = Times {
+        recalibrate: Micros(30_000_000),
+        diagnostic: Micros(30_000_000),
+        ..Profile::blank().times
+    };
     Profile {
         slot: 5,
         vendor: 0x55,
@@ -120,13 +125,12 @@ fn protected_removable() -> Profile {
 
 // Fixed, no option, the slowest heads and the longest seek.
 fn slowest_heads() -> Profile {
-    let mut times = no_times();
-    let settle = Micros(60_000);
-    let step = PerCylinder(1000);
-    let switch = Micros(60_000);
-    times.settle = settle;
-    times.step = step;
-    times.switch = switch;
+    let times = Times {
+        settle: Micros(60_000),
+        step: PerCylinder(1000),
+        switch: Micros(60_000),
+        ..Profile::blank().times
+    };
     Profile {
         slot: 7,
         vendor: 0x77,
@@ -139,19 +143,13 @@ fn slowest_heads() -> Profile {
     }
 }
 
-fn mixed(slot: u8) -> Profile {
+fn mixed(slot: u8) -> Option<Profile> {
     match slot {
-        1 => every_option(),
-        2 => slow_soft(),
-        4 => protected_fixed(),
-        5 => protected_removable(),
-        _ => slowest_heads(),
-    }
-}
-
-pub fn profile(which: u8, slot: u8) -> Profile {
-    match which {
-        MIXED => mixed(slot),
-        _ => bus_smallest::drive(slot),
+        1 => Some(every_option()),
+        2 => Some(slow_soft()),
+        4 => Some(protected_fixed()),
+        5 => Some(protected_removable()),
+        7 => Some(slowest_heads()),
+        _ => None,
     }
 }

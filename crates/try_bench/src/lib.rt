@@ -6,27 +6,15 @@ pub mod plain;
 pub mod play;
 pub mod tally;
 
-ghost use Rattle.std.specs.Prelude.{◌≡◌, ◌≤◌, length, take};
-
-use bus_reply::Reply;
 use chain_record::Chain;
+use counts::{Head, LAST_SLOT, Micros, Position};
+use drives::Drives;
+use event::Event;
 use pack_profile::Profile;
+use std::alloc::{AllocError, Global};
 
 // Room for the longest chain's file, and more.
-pub const ROOM: usize = 131_072;
-
-// The kinds of the events that are played from here.
-pub const SELECT: u32 = 0;
-
-pub const HEADS: u32 = 1;
-
-pub const DATA: u32 = 4;
-
-pub const REQUEST: u32 = 5;
-
-pub const PASS: u32 = 6;
-
-pub const CONDITION: u32 = 8;
+const ROOM: usize = 131_072;
 
 // What each line adds to the sum.
 pub const ACKNOWLEDGE: u8 = 4;
@@ -35,96 +23,98 @@ pub const STATUS: u8 = 8;
 
 pub const ATTENTION: u8 = 16;
 
-// A chain, and how much of the room is lent to it as its file.
-#[derive(Clone, Copy)]
-pub struct Bench {
-    pub chain: Chain,
-    pub lent: usize,
-}
-
 // What an event came to: its answer, the value, and then the lines as a sum.
-#[derive(Clone, Copy)]
+#[derive(Clone, Copy, Default, PartialEq)]
 pub struct Told {
+    // Stays: no plainer: a script says answers by the numbers of the output line.
     pub answer: u8,
     pub value: u8,
     pub sum: u8,
 }
 
-#[derive(Clone, Copy)]
-pub struct Met {
-    pub bench: Bench,
-    pub told: Told,
+// A chain, the room of its file, and how much of the room is lent to it.
+#[derive(Drop)]
+pub struct Bench {
+    pub chain: Chain,
+    // Stays: no plainer: a script may lend more than the room has, so lent is no slice's length.
+    pub lent: usize,
+    room: Vec<u8>,
 }
 
-fn lay(file: &mut [u8], at: usize, p: Profile)
-    requires { at ≤ length file.old }
-{
-    pack_lay::lay(p, &mut file[at..]);
+impl Bench {
+    // No drive.
+    pub fn new(alloc: Global) -> Result<Bench, AllocError> {
+        Ok(Bench {
+            chain: chain_fit::fit(&[]).chain,
+            lent: 0,
+            room: vec![in alloc; 0u8; ROOM]?,
+        })
+    }
+
+    // One of the chains that are here, fresh, its file laid anew.
+    pub fn fit(&mut self, drives: Drives) {
+        let room = self.room.as_mut_slice();
+        self.lent = lay_all(room, drives);
+        self.chain = chain_fit::fit(&room[..self.lent.min(room.len())]).chain;
+    }
+
+    // An event by its three numbers.
+    pub fn meet(&mut self, kind: u32, a: u32, b: u32) -> Told {
+        let room = self.room.as_mut_slice();
+        let lent = self.lent.min(room.len());
+        let reply = bus_reply::to_event(self.chain, &mut room[..lent], kind, a, b);
+        self.chain = reply.chain;
+        // Stays: no plainer: as in bus_session, a struct of the three in Reply would be taken apart wherever they are named.
+        Told {
+            answer: reply.answer,
+            value: reply.value,
+            sum: reply.sum,
+        }
+    }
+
+    pub fn happen(&mut self, event: Event) -> Told {
+        let (kind, a, b) = numbers(event);
+        self.meet(kind, a, b)
+    }
+
+    // The byte at a place of the room.
+    pub fn byte(&self, place: u32) -> Option<u8> {
+        self.room.get(place as usize).copied()
+    }
+}
+
+// An event's kind and its two operands.
+pub fn numbers(event: Event) -> (u32, u32, u32) {
+    match event {
+        Event::Select(code) => (0, u32::from(code), 0),
+        Event::Heads(Head(heads)) => (1, u32::from(heads), 0),
+        Event::WriteGate(level) => (2, u32::from(level), 0),
+        Event::ReadGate(level) => (3, u32::from(level), 0),
+        Event::Data(level) => (4, u32::from(level), 0),
+        Event::Request(level) => (5, u32::from(level), 0),
+        Event::Pass(Micros(us)) => (6, us, 0),
+        Event::Cell(Position(position), byte) => (7, u32::from(position), u32::from(byte)),
+        Event::Condition(slot, which) => (8, u32::from(slot), u32::from(which)),
+    }
 }
 
 // Lays a pack at a place, and gives the place behind it.
-fn lay_behind(file: &mut [u8; ROOM], at: usize, p: Profile) -> usize {
-    if at > ROOM {
-        return ROOM;
+// Stays: no plainer: where the packs end is the answer itself, which a rest that shrinks would lose.
+fn lay_behind(room: &mut [u8], at: usize, p: Profile) -> usize {
+    if at > room.len() {
+        return at;
     }
-    lay(file, at, p);
-    let shape = p.shape;
-    at + pack_profile::medium(shape) + pack_trailer::LENGTH
-}
-
-fn lay_slot(file: &mut [u8; ROOM], at: usize, which: u8, slot: u8) -> usize {
-    if drives::is_fitted(which, slot) {
-        return lay_behind(file, at, drives::profile(which, slot));
-    }
-    at
+    let _ = pack_lay::lay(p, &mut room[at..]);
+    at + pack_profile::medium(p.shape) + pack_trailer::LENGTH
 }
 
 // Lays the packs of a chain, slot after slot, and gives the file's length.
-fn lay_all(file: &mut [u8; ROOM], which: u8) -> usize {
+fn lay_all(room: &mut [u8], drives: Drives) -> usize {
     let mut at = 0;
-    for slot in 1..8 {
-        at = lay_slot(file, at, which, slot);
+    for slot in 1..=LAST_SLOT {
+        if let Some(p) = drives.fitted(slot) {
+            at = lay_behind(room, at, p);
+        }
     }
     at
-}
-
-// So many bytes of the room, or all that there are.
-fn at_most(file: &[u8], n: usize) -> usize
-    ensures { (result ≤ length file.now) × (length (take result file.now) ≡ result) }
-{
-    if n > file.len() {
-        return file.len();
-    }
-    n
-}
-
-fn fit(file: &[u8], n: usize) -> Chain {
-    let end = at_most(file, n);
-    chain_fit::fit(&file[..end]).chain
-}
-
-// One of the chains that are here, fresh, its file laid anew.
-pub fn fresh_chain(file: &mut [u8; ROOM], which: u8) -> Bench {
-    let lent = lay_all(file, which);
-    let chain = fit(file, lent);
-    Bench { chain, lent }
-}
-
-fn reply(c: Chain, file: &mut [u8], n: usize, kind: u32, a: u32, b: u32) -> Reply {
-    let end = at_most(file, n);
-    bus_reply::to_event(c, &mut file[..end], kind, a, b)
-}
-
-// An event on the cable.
-pub fn meet(bench: Bench, file: &mut [u8; ROOM], kind: u32, a: u32, b: u32) -> Met {
-    let lent = bench.lent;
-    let r = reply(bench.chain, file, lent, kind, a, b);
-    let chain = r.chain;
-    let told = Told {
-        answer: r.answer,
-        value: r.value,
-        sum: r.sum,
-    };
-    let after = Bench { chain, lent };
-    Met { bench: after, told }
 }

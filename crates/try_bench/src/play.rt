@@ -1,123 +1,102 @@
 // Events on the cable, one by one or a word's together.
 use crate::tally::Tally;
-use crate::{ACKNOWLEDGE, ATTENTION, Bench, DATA, REQUEST, ROOM, STATUS, Told, tally};
+use crate::{ACKNOWLEDGE, ATTENTION, Bench, STATUS, Told, numbers};
 use chain_decide::shown;
-use chain_record::Chain;
-use handshake::Transfer;
+use event::Event;
+use std::alloc::{AllocError, Global};
 
-// told: what the last event came to. good: whether every event before it within the word came as it must.
-#[derive(Clone, Copy)]
+// A word's bits, to the drive or from it.
+const BITS: u32 = 17;
+
+// told: what the last event came to.
+#[derive(Drop)]
 pub struct Play {
     pub bench: Bench,
     pub told: Told,
-    pub good: bool,
     pub tally: Tally,
 }
 
-// The same on another bench.
-pub fn with_bench(p: Play, bench: Bench) -> Play {
-    let mut q = p;
-    q.bench = bench;
-    q
+// How request rises for a bit: it is taken, or put out.
+#[derive(Clone, Copy)]
+enum Way {
+    Taking,
+    Responding,
 }
 
-pub fn with_chain(p: Play, chain: Chain) -> Play {
-    let lent = p.bench.lent;
-    with_bench(p, Bench { chain, lent })
-}
-
-pub fn with_lent(p: Play, lent: usize) -> Play {
-    let chain = p.bench.chain;
-    with_bench(p, Bench { chain, lent })
-}
-
-pub fn event(p: Play, file: &mut [u8; ROOM], kind: u32, a: u32, b: u32) -> Play {
-    let m = crate::meet(p.bench, file, kind, a, b);
-    let bench = m.bench;
-    let told = m.told;
-    let tally = tally::counted(p.tally, kind, told.answer);
-    Play {
-        bench,
-        told,
-        good: p.good,
-        tally,
+impl Play {
+    // Nothing played yet, and no drive.
+    pub fn new(alloc: Global) -> Result<Play, AllocError> {
+        Ok(Play {
+            bench: Bench::new(alloc)?,
+            told: Told::default(),
+            tally: Tally::none(),
+        })
     }
-}
 
-// An event within a word is taken and leaves these lines.
-fn kept(p: Play, sum: u32) -> Play {
-    let mut q = p;
-    q.good = p.good & (p.told.answer == 0) & (p.told.value == 0) & (p.told.sum as u32 == sum);
-    q
-}
+    // An event by its three numbers.
+    pub fn event(&mut self, kind: u32, a: u32, b: u32) {
+        self.told = self.bench.meet(kind, a, b);
+        self.tally.count(kind, self.told.answer);
+    }
 
-// What came is as it must be, or not.
-pub fn found(p: Play, good: bool) -> Play {
-    let mut q = p;
-    q.good = good;
-    q
+    fn happen(&mut self, event: Event) {
+        let (kind, a, b) = numbers(event);
+        self.event(kind, a, b);
+    }
+
+    // Whether an event within a word is taken and leaves these lines.
+    fn leaves(&mut self, event: Event, sum: u8) -> bool {
+        self.happen(event);
+        let taken = Told {
+            answer: 0,
+            value: 0,
+            sum,
+        };
+        self.told == taken
+    }
+
+    // A bit taken: the data line, then request's rise, which raises acknowledge.
+    fn takes(&mut self, bit: u8, before: u8, open: u8) -> bool {
+        let set = self.leaves(Event::Data(bit), before);
+        self.leaves(Event::Request(1), open | ACKNOWLEDGE) & set
+    }
+
+    // A response bit put out: request's rise raises acknowledge, and data shows the bit.
+    fn puts_out(&mut self, bit: u8, open: u8) -> bool {
+        self.leaves(Event::Request(1), open | ACKNOWLEDGE | bit % 2 * STATUS)
+    }
+
+    // The first bits of seventeen, the highest first. Whether every event but the last fall came as it must.
+    fn bits(&mut self, way: Way, word: u32, count: u32) -> bool {
+        let mut good = true;
+        let mut before = shown::line_sum(self.bench.chain);
+        let open = open_sum(before);
+        let count = count.min(BITS);
+        for i in 0..count {
+            let bit = (word >> (BITS - 1 - i) & 1) as u8;
+            good &= match way {
+                Way::Taking => self.takes(bit, before, open),
+                Way::Responding => self.puts_out(bit, open),
+            };
+            let last = i + 1 == count;
+            good &= self.leaves(Event::Request(0), open) | last;
+            before = open;
+        }
+        good
+    }
+
+    // The first bits of a word of seventeen; the last fall's answer is left to the script.
+    pub fn send(&mut self, word: u32, count: u32) -> bool {
+        self.bits(Way::Taking, word, count)
+    }
+
+    // A response of seventeen bits, which must be this one.
+    pub fn take(&mut self, word: u32) -> bool {
+        self.bits(Way::Responding, word, BITS)
+    }
 }
 
 // The lines while a transfer is open and request low: selected, ready and attention stay, complete is gone.
 fn open_sum(sum: u8) -> u8 {
-    sum % ACKNOWLEDGE + sum / ATTENTION % 2 * ATTENTION
-}
-
-// A bit taken: the data line, then request's rise, which raises acknowledge.
-fn taken(p: Play, file: &mut [u8; ROOM], bit: u32, before: u8, open: u8) -> Play {
-    let set = kept(event(p, file, DATA, bit, 0), before as u32);
-    kept(
-        event(set, file, REQUEST, 1, 0),
-        open as u32 + ACKNOWLEDGE as u32,
-    )
-}
-
-// Request's fall; the last one's answer is left to the script.
-fn fallen(p: Play, file: &mut [u8; ROOM], open: u8, last: bool) -> Play {
-    let q = event(p, file, REQUEST, 0, 0);
-    if last {
-        return q;
-    }
-    kept(q, open as u32)
-}
-
-// A response bit put out: request's rise raises acknowledge, and data shows the bit.
-fn put_out(p: Play, file: &mut [u8; ROOM], bit: u32, open: u8) -> Play {
-    kept(
-        event(p, file, REQUEST, 1, 0),
-        open as u32 + ACKNOWLEDGE as u32 + bit % 2 * STATUS as u32,
-    )
-}
-
-// Request's rise for one bit, to the drive or from it.
-fn risen(p: Play, file: &mut [u8; ROOM], way: u8, bit: u32, before: u8, open: u8) -> Play {
-    if way == Transfer::TAKING {
-        return taken(p, file, bit, before, open);
-    }
-    put_out(p, file, bit, open)
-}
-
-// The first bits of seventeen, the highest first, to the drive or from it.
-fn bits(p: Play, file: &mut [u8; ROOM], way: u8, word: u32, count: u32) -> Play {
-    let mut q = found(p, true);
-    let mut before = shown::line_sum(p.bench.chain);
-    let open = open_sum(before);
-    let mut n = word;
-    for i in 0..count {
-        q = risen(q, file, way, n / 65_536 % 2, before, open);
-        q = fallen(q, file, open, i + 1 == count);
-        before = open;
-        n = n % 65_536 * 2;
-    }
-    q
-}
-
-// The first bits of a word of seventeen.
-pub fn send(p: Play, file: &mut [u8; ROOM], word: u32, count: u32) -> Play {
-    bits(p, file, Transfer::TAKING, word, count)
-}
-
-// A response of seventeen bits, which must be this one.
-pub fn take(p: Play, file: &mut [u8; ROOM], word: u32) -> Play {
-    bits(p, file, Transfer::RESPONDING, word, 17)
+    sum % ACKNOWLEDGE | sum & ATTENTION
 }

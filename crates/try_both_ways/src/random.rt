@@ -1,17 +1,34 @@
 // Numbers that look random and are the same in every run.
+ghost use Rattle.std.specs.Prelude.{◌≤◌, ◌-◌};
+
 use counts::Micros;
 
 // The next of a sequence that meets every number from 1 to 2,147,483,646.
-pub fn next(seed: u64) -> u64 {
+fn next(seed: u64) -> u64 {
     seed % 2_147_483_647 * 48_271 % 2_147_483_647
 }
 
-// One of the numbers below n; 0 where there are none.
-pub fn below(seed: u64, n: u64) -> u16 {
-    if n == 0 {
-        return 0;
+#[derive(Clone, Copy)]
+pub struct Random {
+    seed: u64,
+}
+
+impl Random {
+    pub fn new(seed: u64) -> Random {
+        Random { seed }
     }
-    (seed / 4 % n % 65_536) as u16
+
+    pub fn draw(&mut self) -> u64 {
+        self.seed = next(self.seed);
+        self.seed
+    }
+}
+
+// One of the numbers below n; 0 where there are none.
+pub fn below(r: u64, n: u64) -> u64
+    ensures { result ≤ n - 1 }
+{
+    (r / 4).checked_rem(n).unwrap_or(0)
 }
 
 // A wait between two request edges, in two parts. None is longer than 10,000 microseconds.
@@ -19,6 +36,13 @@ pub fn below(seed: u64, n: u64) -> u16 {
 pub struct Wait {
     pub first: Micros,
     pub second: Micros,
+}
+
+// The waits of a word, one behind the other.
+#[derive(Clone, Copy)]
+pub struct Waits {
+    seed: u64,
+    at: u32,
 }
 
 fn stretch(r: u64) -> u32 {
@@ -31,13 +55,19 @@ fn stretch(r: u64) -> u32 {
     }
 }
 
-// The wait that a word's seed has in its i-th place.
-pub fn wait_at(seed: u64, i: u32) -> Wait {
-    let r = next(next(seed % 2_147_483_647 + i as u64));
-    let all = stretch(r / 16);
-    let some = all / 3;
-    Wait {
-        first: Micros(some),
-        second: Micros(all - some),
+impl Waits {
+    pub fn new(seed: u64) -> Waits {
+        Waits { seed, at: 0 }
+    }
+
+    pub fn draw(&mut self) -> Wait {
+        let r = next(next(self.seed % 2_147_483_647 + u64::from(self.at)));
+        self.at = self.at.wrapping_add(1);
+        let all = stretch(r / 16);
+        let some = all / 3;
+        Wait {
+            first: Micros(some),
+            second: Micros(all - some),
+        }
     }
 }

@@ -1,87 +1,36 @@
-// A script line: what it plays, and whether what came is what it says.
+// Plays a script line, and reports whether what came is what it says.
 //
-//     # title                        a session starts: whatever was before is forgotten
-//     -- text                        a remark; so is what stands behind a line's last number
-//     fit N                          a fresh chain: 0 mixed, 1 full, 2 none
-//     kind a b = answer value sum    an event
-//     send WORD PARITY = a v s       a word by its seventeen bits; what stands behind = is of the last fall
-//     part COUNT WORD = a v s        the first bits of a word
-//     take WORD PARITY = a v s       the response, bit by bit
-//     plain WORD PARITY = w p s      a word handed to the plain word rules: the response (0 0 if none) and the lines
-//     set SLOT FIELD = value         the record is changed by hand
-//     is SLOT FIELD = value          the record holds this
-//     at PLACE = value               the file holds this byte
-//     lend LENGTH                    so much of the file is lent
+//     # title     a session starts: whatever was before is forgotten
+//     -- text     a remark; so is what stands behind a line's last number
+//
+// Every other line is a step.
+use crate::step;
+use crate::step::{Named, Step};
 use chain_decide::shown;
+use std::alloc::{AllocError, Global};
 use std::io;
+use try_bench::drives::Drives;
 use try_bench::play::Play;
-use try_bench::tally::{Tally, one_more, say, say_number};
-use try_bench::{ROOM, Told, drives, plain, play, tally};
-use try_script::words::Number;
+use try_bench::{Told, plain};
 use try_script::{fields, words};
 
+// Stays: on every input the program does what it did, and a script may say this of a field or a byte that isn't there.
+const NOWHERE: u32 = u32::MAX;
+
 // here: the differences of this session.
-#[derive(Clone, Copy)]
+#[derive(Drop)]
 pub struct Run {
-    pub play: Play,
-    pub here: u32,
-    pub differences: u32,
-    pub sessions: u32,
-    pub lines: u32,
-}
-
-const SEND: u8 = 0;
-
-const PART: u8 = 1;
-
-const TAKE: u8 = 2;
-
-const PLAIN: u8 = 3;
-
-const SET: u8 = 4;
-
-const IS: u8 = 5;
-
-const LEND: u8 = 6;
-
-const FIT: u8 = 7;
-
-const AT: u8 = 8;
-
-// What a line does, by its first word; a number is an event's kind.
-fn verb(line: &[u8]) -> u8 {
-    words::index(
-        b"send part take plain set is lend fit at",
-        words::word(line, 0),
-    )
-}
-
-// No session yet, and no drive.
-pub fn start(file: &mut [u8; ROOM]) -> Run {
-    let told = Told {
-        answer: 0,
-        value: 0,
-        sum: 0,
-    };
-    let play = Play {
-        bench: try_bench::fresh_chain(file, drives::NONE),
-        told,
-        good: true,
-        tally: Tally::none(),
-    };
-    Run {
-        play,
-        here: 0,
-        differences: 0,
-        sessions: 0,
-        lines: 0,
-    }
+    play: Play,
+    here: u32,
+    differences: u32,
+    sessions: u32,
+    lines: u32,
 }
 
 // Reports a line that isn't as it says.
 fn amiss(rt: &impl Print, line: &[u8], why: &str) -> io::Result<bool> {
-    say(rt, b"\n  ")?;
-    say(rt, line)?;
+    print!(rt; "\n  ")?;
+    rt.write_all(line)?;
     print!(rt; "\n  {why}")?;
     Ok(false)
 }
@@ -90,23 +39,15 @@ fn unread(rt: &impl Print, line: &[u8]) -> io::Result<bool> {
     amiss(rt, line, "can't be read")
 }
 
-fn says(n: Number, value: u8) -> bool {
-    n.ok & (n.n == value as u32)
+fn says(line: &[u8], k: usize, value: u8) -> bool {
+    words::number(line, k) == Some(u32::from(value))
 }
 
 fn says_told(line: &[u8], told: Told) -> bool {
-    words::is_at(line, 3, b"=")
-        & says(words::number_at(line, 4), told.answer)
-        & says(words::number_at(line, 5), told.value)
-        & says(words::number_at(line, 6), told.sum)
-}
-
-fn came(rt: &impl Print, line: &[u8], told: Told) -> io::Result<bool> {
-    amiss(rt, line, "came")?;
-    say_number(rt, told.answer as u32)?;
-    say_number(rt, told.value as u32)?;
-    say_number(rt, told.sum as u32)?;
-    Ok(false)
+    (words::word(line, 3) == "=")
+        & says(line, 4, told.answer)
+        & says(line, 5, told.value)
+        & says(line, 6, told.sum)
 }
 
 // The three numbers behind = are what the last event came to, and what was before it is good.
@@ -117,227 +58,142 @@ fn judged(rt: &impl Print, line: &[u8], told: Told, good: bool) -> io::Result<bo
     if says_told(line, told) {
         return Ok(true);
     }
-    came(rt, line, told)
-}
-
-fn held_to(rt: &impl Print, line: &[u8], p: Play) -> io::Result<Play> {
-    Ok(play::found(p, judged(rt, line, p.told, p.good)?))
-}
-
-fn event(rt: &impl Print, p: Play, file: &mut [u8; ROOM], line: &[u8]) -> io::Result<Play> {
-    let kind = words::number_at(line, 0);
-    let a = words::number_at(line, 1);
-    let b = words::number_at(line, 2);
-    if !(kind.ok & a.ok & b.ok) {
-        return Ok(play::found(p, unread(rt, line)?));
-    }
-    held_to(rt, line, play::event(p, file, kind.n, a.n, b.n))
-}
-
-fn with_parity(word: u32, parity: u32) -> u32 {
-    word % 65_536 * 2 + parity % 2
+    let Told { answer, value, sum } = told;
+    amiss(rt, line, "came")?;
+    print!(rt; " {answer} {value} {sum}")?;
+    Ok(false)
 }
 
 // The response and the lines are what the three numbers behind = say.
-fn answers(line: &[u8], response: u32, sum: u8) -> bool {
-    let word = words::number_at(line, 4);
-    let parity = words::number_at(line, 5);
-    words::is_at(line, 3, b"=")
-        & (word.ok & parity.ok)
-        & (with_parity(word.n, parity.n) == response)
-        & says(words::number_at(line, 6), sum)
+fn answers(line: &[u8], response: Option<u32>, sum: u8) -> bool {
+    (words::word(line, 3) == "=")
+        & (step::word_at(line, 4) == Some(response.unwrap_or(0)))
+        & says(line, 6, sum)
 }
 
-fn plainly(rt: &impl Print, p: Play, line: &[u8], word: u32) -> io::Result<Play> {
-    let a = plain::plain(p.bench.chain, word);
-    let q = play::with_chain(p, a.chain);
+fn plainly(rt: &impl Print, play: &mut Play, line: &[u8], word: u32) -> io::Result<bool> {
+    let a = plain::plain(play.bench.chain, word);
+    play.bench.chain = a.chain;
     if answers(line, a.response, shown::line_sum(a.chain)) {
-        return Ok(q);
+        return Ok(true);
     }
-    let good = amiss(rt, line, "not so by the plain word rules")?;
-    Ok(play::found(q, good))
+    amiss(rt, line, "not so by the plain word rules")
 }
 
-// A word on the cable, or a part of it, or its response.
-fn sent(p: Play, file: &mut [u8; ROOM], what: u8, a: u32, b: u32) -> Play {
-    match what {
-        SEND => play::send(p, file, with_parity(a, b), 17),
-        PART => play::send(p, file, with_parity(b, 0), a % 17),
-        _ => play::take(p, file, with_parity(a, b)),
+fn set(rt: &impl Print, play: &mut Play, line: &[u8], to: Named, v: u32) -> io::Result<bool> {
+    let chain = &mut play.bench.chain;
+    fields::set_field(chain, to.slot, to.name, v);
+    if fields::field(chain, to.slot, to.name).unwrap_or(NOWHERE) == v {
+        return Ok(true);
     }
+    unread(rt, line)
 }
 
-// A line that plays a word.
-fn word(
-    rt: &impl Print,
-    p: Play,
-    file: &mut [u8; ROOM],
-    line: &[u8],
-    what: u8,
-) -> io::Result<Play> {
-    let a = words::number_at(line, 1);
-    let b = words::number_at(line, 2);
-    if !(a.ok & b.ok) {
-        return Ok(play::found(p, unread(rt, line)?));
-    }
-    if what == PLAIN {
-        return plainly(rt, p, line, with_parity(a.n, b.n));
-    }
-    held_to(rt, line, sent(p, file, what, a.n, b.n))
-}
-
-fn changed(rt: &impl Print, p: Play, line: &[u8], slot: u32, v: u32) -> io::Result<Play> {
-    let name = words::word(line, 2);
-    let chain = fields::with_field(p.bench.chain, slot, name, v);
-    let q = play::with_chain(p, chain);
-    if fields::field(chain, slot, name) == v {
-        return Ok(q);
-    }
-    Ok(play::found(q, unread(rt, line)?))
-}
-
-fn compared(rt: &impl Print, line: &[u8], held: u32, v: u32) -> io::Result<bool> {
+fn compared(rt: &impl Print, line: &[u8], held: Option<u32>, v: u32) -> io::Result<bool> {
+    let held = held.unwrap_or(NOWHERE);
     if held == v {
         return Ok(true);
     }
     amiss(rt, line, "holds")?;
-    say_number(rt, held)?;
+    print!(rt; " {held}")?;
     Ok(false)
 }
 
-// A line about a field of the record.
-fn record(rt: &impl Print, p: Play, line: &[u8], what: u8) -> io::Result<Play> {
-    let slot = words::number_at(line, 1);
-    let v = words::number_at(line, 4);
-    if !(slot.ok & v.ok & words::is_at(line, 3, b"=")) {
-        return Ok(play::found(p, unread(rt, line)?));
-    }
-    if what == SET {
-        return changed(rt, p, line, slot.n, v.n);
-    }
-    let held = fields::field(p.bench.chain, slot.n, words::word(line, 2));
-    Ok(play::found(p, compared(rt, line, held, v.n)?))
-}
-
-fn wide(byte: u8) -> u32 {
-    byte as u32
-}
-
-fn byte_at(file: &[u8; ROOM], place: u32) -> u32 {
-    let i = place as usize;
-    if i >= ROOM {
-        return fields::NO_FIELD;
-    }
-    wide(file[i])
-}
-
-// A line about a byte of the file.
-fn medium(rt: &impl Print, file: &[u8; ROOM], line: &[u8]) -> io::Result<bool> {
-    let place = words::number_at(line, 1);
-    let v = words::number_at(line, 3);
-    if !(place.ok & v.ok & words::is_at(line, 2, b"=")) {
+// Plays a step. Whether it went as the line says.
+fn played(rt: &impl Print, play: &mut Play, line: &[u8]) -> io::Result<bool> {
+    let Some(step) = step::read(line) else {
         return unread(rt, line);
+    };
+    let mut good = true;
+    match step {
+        Step::Event(kind, a, b) => play.event(kind, a, b),
+        Step::Send(word, count) => good = play.send(word, count),
+        Step::Take(word) => good = play.take(word),
+        Step::Plain(word) => return plainly(rt, play, line, word),
+        Step::Set(to, v) => return set(rt, play, line, to, v),
+        Step::Is(at, v) => {
+            let held = fields::field(&play.bench.chain, at.slot, at.name);
+            return compared(rt, line, held, v);
+        }
+        Step::At(place, v) => {
+            let held = play.bench.byte(place).map(u32::from);
+            return compared(rt, line, held, v);
+        }
+        Step::Lend(lent) => {
+            play.bench.lent = lent;
+            return Ok(true);
+        }
+        Step::Fit(drives) => {
+            play.bench.fit(drives);
+            return Ok(true);
+        }
     }
-    compared(rt, line, byte_at(file, place.n), v.n)
+    judged(rt, line, play.told, good)
 }
 
-// A line about the file: another length of it, or a chain laid anew.
-fn bench(
-    rt: &impl Print,
-    p: Play,
-    file: &mut [u8; ROOM],
-    line: &[u8],
-    what: u8,
-) -> io::Result<Play> {
-    let n = words::number_at(line, 1);
-    if !n.ok {
-        return Ok(play::found(p, unread(rt, line)?));
+impl Run {
+    // No session yet, and no drive.
+    pub fn new(alloc: Global) -> Result<Run, AllocError> {
+        Ok(Run {
+            play: Play::new(alloc)?,
+            here: 0,
+            differences: 0,
+            sessions: 0,
+            lines: 0,
+        })
     }
-    if what == LEND {
-        return Ok(play::with_lent(p, n.n as usize));
-    }
-    let fresh = try_bench::fresh_chain(file, (n.n % 256) as u8);
-    Ok(play::with_bench(p, fresh))
-}
 
-fn played(rt: &impl Print, p: Play, file: &mut [u8; ROOM], line: &[u8]) -> io::Result<Play> {
-    let what = verb(line);
-    match what {
-        SEND | PART | TAKE | PLAIN => word(rt, p, file, line, what),
-        SET | IS => record(rt, p, line, what),
-        LEND | FIT => bench(rt, p, file, line, what),
-        AT => Ok(play::found(p, medium(rt, file, line)?)),
-        _ => event(rt, p, file, line),
+    pub fn line(&mut self, rt: &impl Print, line: &[u8]) -> io::Result<()> {
+        match line.first() {
+            None | Some(b'-') => Ok(()),
+            Some(b'#') => self.titled(rt, line),
+            Some(_) => self.counted(rt, line),
+        }
     }
-}
 
-// Ends a session's line of the report.
-fn closed(rt: &impl Print, sessions: u32, here: u32) -> io::Result<()> {
-    if sessions == 0 {
-        return Ok(());
+    // A session has no chain until the script fits one.
+    fn titled(&mut self, rt: &impl Print, line: &[u8]) -> io::Result<()> {
+        self.close(rt)?;
+        rt.write_all(line)?;
+        self.play.bench.fit(Drives::Empty);
+        self.here = 0;
+        self.sessions = self.sessions.wrapping_add(1);
+        Ok(())
     }
-    if here == 0 {
-        return say(rt, b": ok\n");
+
+    // Ends a session's line of the report.
+    fn close(&self, rt: &impl Print) -> io::Result<()> {
+        if self.sessions == 0 {
+            return Ok(());
+        }
+        if self.here == 0 {
+            return println!(rt; ": ok");
+        }
+        println!(rt; "\n  NOT ok")
     }
-    say(rt, b"\n  NOT ok\n")
-}
 
-// A session has no chain until the script fits one.
-fn titled(rt: &impl Print, r: Run, file: &mut [u8; ROOM], line: &[u8]) -> io::Result<Run> {
-    closed(rt, r.sessions, r.here)?;
-    say(rt, line)?;
-    let play = play::with_bench(r.play, try_bench::fresh_chain(file, drives::NONE));
-    Ok(Run {
-        play,
-        here: 0,
-        differences: r.differences,
-        sessions: one_more(r.sessions),
-        lines: r.lines,
-    })
-}
-
-fn one_if(n: u32, good: bool) -> u32 {
-    if good {
-        return n;
+    // A line that plays something.
+    fn counted(&mut self, rt: &impl Print, line: &[u8]) -> io::Result<()> {
+        let different = u32::from(!played(rt, &mut self.play, line)?);
+        self.here = self.here.wrapping_add(different);
+        self.differences = self.differences.wrapping_add(different);
+        self.lines = self.lines.wrapping_add(1);
+        Ok(())
     }
-    one_more(n)
-}
 
-// A line that plays something.
-fn on_with(rt: &impl Print, r: Run, file: &mut [u8; ROOM], line: &[u8]) -> io::Result<Run> {
-    let play = played(rt, play::found(r.play, true), file, line)?;
-    Ok(Run {
-        play,
-        here: one_if(r.here, play.good),
-        differences: one_if(r.differences, play.good),
-        sessions: r.sessions,
-        lines: one_more(r.lines),
-    })
-}
-
-pub fn line(rt: &impl Print, r: Run, file: &mut [u8; ROOM], line: &[u8]) -> io::Result<Run> {
-    if line.len() == 0 {
-        return Ok(r);
+    // The totals.
+    pub fn end(&self, rt: &impl Print) -> io::Result<()> {
+        self.close(rt)?;
+        let Run {
+            sessions,
+            lines,
+            ..
+        } = self;
+        println!(rt; "sessions {sessions}")?;
+        println!(rt; "lines {lines}")?;
+        let tally = self.play.tally;
+        let differences = self.differences;
+        print!(rt; "{tally}")?;
+        println!(rt; "differences {differences}")
     }
-    if line[0] == b'#' {
-        return titled(rt, r, file, line);
-    }
-    if line[0] == b'-' {
-        return Ok(r);
-    }
-    on_with(rt, r, file, line)
-}
-
-fn total(rt: &impl Print, name: &str, n: u32) -> io::Result<()> {
-    println!(rt; "{name} {n}")
-}
-
-// The totals.
-pub fn end(rt: &impl Print, r: Run) -> io::Result<()> {
-    closed(rt, r.sessions, r.here)?;
-    total(rt, "sessions", r.sessions)?;
-    total(rt, "lines", r.lines)?;
-    let tally = r.play.tally;
-    tally::say_all(rt, tally)?;
-    total(rt, "differences", r.differences)
 }

@@ -3,8 +3,6 @@
 // is taken stand the slots of its packs, and whether its bytes are the finished pack's.
 #![tactic(auto)]
 
-ghost use Rattle.std.specs.Prelude.{◌+◌, ◌≤◌};
-
 use counts::{Cylinder, Heads, Position, SectorSize};
 use pack_lay::stages;
 use pack_lay::stages::Stage;
@@ -20,24 +18,36 @@ const MEDIUM: usize = CARD - pack_trailer::LENGTH;
 // What a medium holds that was written on.
 const DRAWING: u8 = 170;
 
-// What reading says of a card; finished, 0 or 1, where its bytes are the finished pack's.
-#[derive(Clone, Copy)]
+// A laying's stages in their order.
+const STAGES: [Stage; 4] = [Stage::Spoil, Stage::Medium, Stage::Fields, Stage::Distance];
+
+// What reading says of a card, and whether its bytes are the finished pack's.
+#[derive(Clone, Copy, PartialEq)]
 struct Seen {
     number: u8,
     place: u32,
-    finished: u8,
+    finished: bool,
 }
 
-fn say(rt: &impl Print, text: &str) -> io::Result<()> {
-    rt.print(text)
+// The places that a stage writes.
+struct Stretch {
+    name: &'static str,
+    start: usize,
+    end: usize,
 }
 
-fn say_number(rt: &impl Print, n: u32) -> io::Result<()> {
-    print!(rt; " {n}")
-}
-
-fn end_line(rt: &impl Print) -> io::Result<()> {
-    say(rt, "\n")
+fn places(s: Stage) -> Stretch {
+    let (name, start, length) = match s {
+        Stage::Spoil => ("spoil", MEDIUM + pack_trailer::FORM_PLACE, 1),
+        Stage::Medium => ("medium", 0, MEDIUM),
+        Stage::Fields => ("fields", MEDIUM, pack_trailer::DISTANCE_PLACE),
+        Stage::Distance => ("distance", MEDIUM + pack_trailer::DISTANCE_PLACE, 4),
+    };
+    Stretch {
+        name,
+        start,
+        end: start + length,
+    }
 }
 
 // A drive of one head, with so many tracks of so many bytes.
@@ -48,9 +58,10 @@ fn drive(slot: u8, cylinders: u16, track: u16) -> Profile {
         track: Position(track),
         sector: SectorSize(512),
     };
-    let mut p = bus_smallest::drive(slot);
-    p.shape = shape;
-    p
+    Profile {
+        shape,
+        ..bus_smallest::drive(slot)
+    }
 }
 
 // The pack that is laid: one track, which fills the card.
@@ -58,205 +69,148 @@ fn whole() -> Profile {
     drive(1, 1, MEDIUM as u16)
 }
 
-fn same(a: &[u8; CARD], b: &[u8; CARD]) -> u8 {
-    for i in 0..CARD {
-        if a[i] != b[i] {
-            return 0;
+fn laid(p: Profile) -> [u8; CARD] {
+    let mut card = [0; CARD];
+    let _ = pack_lay::lay(p, &mut card);
+    card
+}
+
+// A card that the pack is laid on, and the finished pack's bytes.
+#[derive(Drop)]
+struct Trial {
+    card: [u8; CARD],
+    done: [u8; CARD],
+}
+
+impl Trial {
+    fn new(card: [u8; CARD]) -> Trial {
+        Trial {
+            card,
+            done: laid(whole()),
         }
     }
-    1
-}
 
-fn look(card: &[u8; CARD], done: &[u8; CARD]) -> Seen {
-    let found = read::read(card);
-    let answer = found.answer;
-    Seen {
-        number: read::number(answer),
-        place: read::place(answer),
-        finished: same(card, done),
-    }
-}
-
-fn alike(a: Seen, b: Seen) -> bool {
-    (a.number == b.number) & (a.place == b.place) & (a.finished == b.finished)
-}
-
-fn say_slots(rt: &impl Print, card: &[u8; CARD]) -> io::Result<()> {
-    let found = read::read(card);
-    say(rt, " packs")?;
-    for i in 0..7 {
-        if found.slots[i].fitted == 1 {
-            say_number(rt, i as u32 + 1)?;
+    fn look(&self) -> Seen {
+        let found = read::read(&self.card);
+        Seen {
+            number: read::number(found),
+            place: read::place(found),
+            finished: found.is_ok() && self.card == self.done,
         }
     }
-    Ok(())
-}
 
-fn say_finished(rt: &impl Print, finished: u8) -> io::Result<()> {
-    if finished == 1 {
-        return say(rt, " finished");
+    fn show(&self, rt: &impl Print, name: &str, write: usize, seen: Seen) -> io::Result<()> {
+        let Seen {
+            number,
+            place,
+            finished,
+        } = seen;
+        print!(rt; "{name} {write} {number} {place}")?;
+        if let Ok(packs) = read::read(&self.card) {
+            try_script::say_packs(rt, &packs)?;
+            rt.print(if finished {
+                " finished"
+            } else {
+                " not finished"
+            })?;
+        }
+        println!(rt)
     }
-    say(rt, " not finished")
-}
 
-fn show(rt: &impl Print, name: &str, write: u32, card: &[u8; CARD], seen: Seen) -> io::Result<()> {
-    say(rt, name)?;
-    say_number(rt, write)?;
-    say_number(rt, seen.number as u32)?;
-    say_number(rt, seen.place)?;
-    if seen.number == 0 {
-        say_slots(rt, card)?;
-        say_finished(rt, seen.finished)?;
+    // What reading says now, printed where it is not what it said before.
+    fn told(
+        &self,
+        rt: &impl Print,
+        name: &str,
+        write: usize,
+        last: Option<Seen>,
+    ) -> io::Result<Option<Seen>> {
+        let seen = self.look();
+        if last != Some(seen) {
+            self.show(rt, name, write, seen)?;
+        }
+        Ok(Some(seen))
     }
-    end_line(rt)
-}
 
-// What reading says now, printed where it is not what it said before.
-fn told(
-    rt: &impl Print,
-    name: &str,
-    write: u32,
-    card: &[u8; CARD],
-    done: &[u8; CARD],
-    last: Seen,
-) -> io::Result<Seen> {
-    let seen = look(card, done);
-    if !alike(seen, last) {
-        show(rt, name, write, card, seen)?;
+    // A stage as the library lays it, write by write on the card, in the order of its places. The first write is always told.
+    fn pull(&mut self, rt: &impl Print, s: Stage) -> io::Result<()> {
+        let mut next = self.card;
+        let _ = stages::lay_stage(whole(), s, &mut next);
+        let Stretch { name, start, end } = places(s);
+        let mut seen = None;
+        // Stays: no plainer: each turn tells its place and looks at the whole card, which an iterator over its bytes would hold.
+        for place in start..end.min(CARD) {
+            self.card[place] = next[place];
+            seen = self.told(rt, name, place - start + 1, seen)?;
+        }
+        if self.card != next {
+            println!(rt; "{name} wrote past its stretch")?;
+        }
+        Ok(())
     }
-    Ok(seen)
-}
 
-// No reading says this, so that the first write of a stage is always told.
-fn nothing() -> Seen {
-    Seen {
-        number: 1,
-        place: 0,
-        finished: 0,
+    // Every stage in its order, on a card as it was.
+    fn pull_all(&mut self, rt: &impl Print) -> io::Result<()> {
+        self.told(rt, "before", 0, None)?;
+        for s in STAGES {
+            self.pull(rt, s)?;
+        }
+        Ok(())
     }
 }
 
-// A stage as the library lays it, write by write on the card, in the order of its places: count from at on.
-fn pull(
-    rt: &impl Print,
-    card: &mut [u8; CARD],
-    done: &[u8; CARD],
-    s: Stage,
-    name: &str,
-    at: usize,
-    count: usize,
-) -> io::Result<()>
-    requires { at + count ≤ 8278 }
-{
-    let mut next = *card;
-    stages::lay_stage(whole(), s, &mut next);
-    let mut seen = nothing();
-    for i in 0..count {
-        card[at + i] = next[at + i];
-        seen = told(rt, name, i as u32 + 1, card, done, seen)?;
-    }
-    if same(card, &next) == 0 {
-        say(rt, name)?;
-        say(rt, " wrote past its stretch\n")?;
-    }
-    Ok(())
-}
-
-fn pull_medium(rt: &impl Print, card: &mut [u8; CARD], done: &[u8; CARD]) -> io::Result<()> {
-    pull(rt, card, done, Stage::Medium, "medium", 0, MEDIUM)
-}
-
-// Every stage in its order, on a card as it was.
-fn pull_all(
-    rt: &impl Print,
-    heading: &str,
-    card: &mut [u8; CARD],
-    done: &[u8; CARD],
-) -> io::Result<()> {
-    say(rt, heading)?;
-    end_line(rt)?;
-    told(rt, "before", 0, card, done, nothing())?;
-    let form = MEDIUM + pack_trailer::FORM_PLACE;
-    pull(rt, card, done, Stage::Spoil, "spoil", form, 1)?;
-    pull_medium(rt, card, done)?;
-    let fields = pack_trailer::DISTANCE_PLACE;
-    pull(rt, card, done, Stage::Fields, "fields", MEDIUM, fields)?;
-    let distance = MEDIUM + fields;
-    pull(rt, card, done, Stage::Distance, "distance", distance, 4)
+fn pull_all(rt: &impl Print, heading: &str, card: [u8; CARD]) -> io::Result<()> {
+    println!(rt; "{heading}")?;
+    Trial::new(card).pull_all(rt)
 }
 
 // A card with a drawing on a pack of that drive.
 fn drawn(p: Profile) -> [u8; CARD] {
-    let mut card = [DRAWING; CARD];
-    let mut laid = [0u8; CARD];
-    pack_lay::lay(p, &mut laid);
-    card[MEDIUM..].copy_from_slice(&laid[MEDIUM..]);
+    let mut card = laid(p);
+    // Stays: tried card[..MEDIUM].fill(DRAWING): that the part has MEDIUM bytes stayed open (slice_bounds-fill-end).
+    for byte in card.iter_mut().take(MEDIUM) {
+        *byte = DRAWING;
+    }
     card
 }
 
 fn garbage() -> [u8; CARD] {
-    let mut card = [0u8; CARD];
-    for i in 0..CARD {
-        card[i] = (i % 251) as u8;
+    let mut card = [0; CARD];
+    for (i, byte) in card.iter_mut().enumerate() {
+        *byte = (i % 251) as u8;
     }
     card
 }
 
 // Two packs of the smallest drive.
 fn two() -> [u8; CARD] {
-    let mut card = [0u8; CARD];
-    pack_lay::lay(bus_smallest::drive(2), &mut card);
-    pack_lay::lay(bus_smallest::drive(3), &mut card[bus_smallest::PACK..]);
+    let mut card = laid(bus_smallest::drive(2));
+    let _ = pack_lay::lay(bus_smallest::drive(3), &mut card[bus_smallest::PACK..]);
     card
 }
 
-fn untouched(part: &[u8]) -> u8 {
-    for i in 0..part.len() {
-        if part[i] != DRAWING {
-            return 0;
-        }
-    }
-    1
-}
-
-// What a stage answers that is refused, and whether the part is as it was.
-fn refuse(rt: &impl Print, part: &mut [u8], p: Profile, s: Stage) -> io::Result<()> {
-    say_number(rt, pack_lay::number(stages::lay_stage(p, s, part)) as u32)?;
-    say_number(rt, untouched(part) as u32)
-}
-
+// What each stage answers that is refused, and whether the part is as it was.
 fn refuse_all(rt: &impl Print, heading: &str, part: &mut [u8], p: Profile) -> io::Result<()> {
-    say(rt, heading)?;
-    refuse(rt, part, p, Stage::Spoil)?;
-    refuse(rt, part, p, Stage::Medium)?;
-    refuse(rt, part, p, Stage::Fields)?;
-    refuse(rt, part, p, Stage::Distance)?;
-    end_line(rt)
+    rt.print(heading)?;
+    for s in STAGES {
+        let number = pack_lay::number(stages::lay_stage(p, s, part));
+        let untouched = u8::from(part.iter().all(|byte| *byte == DRAWING));
+        print!(rt; " {number} {untouched}")?;
+    }
+    println!(rt)
 }
 
 fn main(rt: HostRuntime) -> io::Result<()> {
-    let mut done = [0u8; CARD];
-    pack_lay::lay(whole(), &mut done);
-    pull_all(&rt, "a zeroed card", &mut [0u8; CARD], &done)?;
-    pull_all(&rt, "garbage", &mut garbage(), &done)?;
-    pull_all(
-        &rt,
-        "an older pack of the same shape",
-        &mut drawn(drive(3, 1, MEDIUM as u16)),
-        &done,
-    )?;
-    pull_all(
-        &rt,
-        "an older pack of another shape and the same length",
-        &mut drawn(drive(3, 2, (MEDIUM / 2) as u16)),
-        &done,
-    )?;
-    pull_all(&rt, "two older packs", &mut two(), &done)?;
-    say(
-        &rt,
-        "an older pack of the same shape, its form not spoiled\n",
-    )?;
-    pull_medium(&rt, &mut drawn(drive(3, 1, MEDIUM as u16)), &done)?;
+    pull_all(&rt, "a zeroed card", [0; CARD])?;
+    pull_all(&rt, "garbage", garbage())?;
+    let same = drawn(drive(3, 1, MEDIUM as u16));
+    let other = drawn(drive(3, 2, (MEDIUM / 2) as u16));
+    pull_all(&rt, "an older pack of the same shape", same)?;
+    let heading = "an older pack of another shape and the same length";
+    pull_all(&rt, heading, other)?;
+    pull_all(&rt, "two older packs", two())?;
+    println!(rt; "an older pack of the same shape, its form not spoiled")?;
+    Trial::new(same).pull(&rt, Stage::Medium)?;
     refuse_all(&rt, "too little room", &mut [DRAWING; CARD - 1], whole())?;
     let no_slot = drive(0, 1, MEDIUM as u16);
     refuse_all(&rt, "no such slot", &mut [DRAWING; CARD], no_slot)

@@ -1,128 +1,43 @@
 // The words of a script line, one space between, and the numbers that they say.
-ghost use Rattle.std.specs.Prelude.{◌≤◌, ◌+◌, ◌-◌, length};
 
-// A number; not ok where the word says none.
-#[derive(Clone, Copy)]
-pub struct Number {
-    pub ok: bool,
-    pub n: u32,
+// The word with k words in front of it, empty where there are fewer; bytes that are no text are no word.
+pub fn word(line: &[u8], k: usize) -> &str {
+    line.split(|byte| *byte == b' ')
+        .nth(k)
+        .and_then(|word| str::from_utf8(word).ok())
+        .unwrap_or("")
 }
 
-// The next place of a byte from a place on, or the end where there is none. It is before the place only where the place is past the end.
-pub fn until(line: &[u8], from: usize, byte: u8) -> usize
-    ensures { (result ≤ length line.now) × (from ≤ result + (from - length line.now)) }
-{
-    if from > line.len() {
-        return line.len();
+// A digit's value; a small letter is none.
+fn digit(c: char) -> Option<u32> {
+    if c.is_ascii_lowercase() {
+        return None;
     }
-    for at in from..line.len() {
-        if line[at] == byte {
-            return at;
-        }
-    }
-    line.len()
+    c.to_digit(16)
 }
 
-// Behind the word that starts at a place, and the space after it.
-fn behind(line: &[u8], from: usize) -> usize
-    requires { from ≤ length line.now }
-    ensures { result ≤ length line.now }
-{
-    let end = until(line, from, b' ');
-    if end < line.len() {
-        return end + 1;
+// The low 32 bits of the number that the digits say.
+// Stays: no plainer: from_str_radix takes small letters and refuses what 32 bits don't hold, so both would be mended around it.
+fn digits(word: &str, base: u32) -> Option<u32> {
+    if word.is_empty() {
+        return None;
     }
-    end
-}
-
-fn start_of(line: &[u8], k: u8) -> usize
-    ensures { result ≤ length line.now }
-{
-    let mut at = 0;
-    for _ in 0..k {
-        at = behind(line, at);
+    let mut n = 0u32;
+    for c in word.chars() {
+        let d = digit(c).filter(|d| *d < base)?;
+        n = n.wrapping_mul(base).wrapping_add(d);
     }
-    at
-}
-
-// The word with k words in front of it, empty where there are fewer.
-pub fn word(line: &[u8], k: u8) -> &[u8] {
-    let start = start_of(line, k);
-    let end = until(line, start, b' ');
-    &line[start..end]
-}
-
-// A digit's value, 16 where the byte is none.
-fn digit(byte: u8) -> u8 {
-    if byte < b'0' {
-        return 16;
-    }
-    if byte <= b'9' {
-        return byte - b'0';
-    }
-    if byte < b'A' {
-        return 16;
-    }
-    if byte <= b'F' {
-        return byte - b'A' + 10;
-    }
-    16
-}
-
-fn grown(n: u64, digit: u8, hex: bool) -> u64 {
-    if hex {
-        return n % 4_294_967_296 * 16 + digit as u64;
-    }
-    n % 4_294_967_296 * 10 + digit as u64
-}
-
-fn base(hex: bool) -> u8 {
-    if hex {
-        return 16;
-    }
-    10
-}
-
-fn digits(word: &[u8], hex: bool) -> Number {
-    let mut n: u64 = 0;
-    for byte in word {
-        let d = digit(*byte);
-        if d >= base(hex) {
-            return Number { ok: false, n: 0 };
-        }
-        n = grown(n, d, hex);
-    }
-    Number {
-        ok: word.len() > 0,
-        n: (n % 4_294_967_296) as u32,
-    }
+    Some(n)
 }
 
 // Decimal, or hexadecimal with an h behind it.
-pub fn said(word: &[u8]) -> Number {
-    let Some((last, front)) = word.split_last() else {
-        return Number { ok: false, n: 0 };
-    };
-    if *last == b'h' {
-        return digits(front, true);
+fn said(word: &str) -> Option<u32> {
+    match word.strip_suffix('h') {
+        Some(front) => digits(front, 16),
+        None => digits(word, 10),
     }
-    digits(word, false)
 }
 
-pub fn number_at(line: &[u8], k: u8) -> Number {
+pub fn number(line: &[u8], k: usize) -> Option<u32> {
     said(word(line, k))
-}
-
-pub fn is_at(line: &[u8], k: u8, text: &[u8]) -> bool {
-    word(line, k) == text
-}
-
-// Which word of a list a name is, counted from 0; past its end where it is none of them.
-pub fn index(list: &[u8], name: &[u8]) -> u8 {
-    for k in 0..32 {
-        if is_at(list, k, name) {
-            return k;
-        }
-    }
-    32
 }

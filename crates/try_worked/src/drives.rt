@@ -1,246 +1,261 @@
 // The drives that words are sent to, and the states that they are in.
-use counts::{Cylinder, Head, Heads, Micros, PerCylinder, Position, SectorSize};
+use counts::{Cylinder, Heads, Micros, PerCylinder, Position, SectorSize};
 use drive_record::{Arm, Body, Latched, State, Timers};
 use handshake::Transfer;
 use pack_profile::{Profile, Shape, Times};
+use std::fmt;
 
-// 003's 3180E with the options jumpered, hard sectored.
-pub const HARD: u8 = 0;
-
-// The same, soft sectored.
-pub const SOFT: u8 = 1;
-
-// The drive of document 01's worked values, write protected.
-pub const BARE: u8 = 2;
-
-// A removable one, write protected, whose motor starts at once.
-pub const REMOVABLE: u8 = 3;
-
-// The same, with the widest gaps: they fill 255 + 2 x 255 bytes of a sector.
-pub const WIDE: u8 = 4;
-
-pub const FRESH: u8 = 0;
-
-pub const STOPPED: u8 = 1;
-
-pub const STARTING: u8 = 2;
-
-pub const LOST: u8 = 3;
-
-pub const BUSY: u8 = 4;
-
-// The head timer runs.
-pub const SWITCHING: u8 = 5;
-
-pub const READING: u8 = 6;
-
-pub const WRITING: u8 = 7;
-
-// A transfer is open.
-pub const OPEN: u8 = 8;
-
-// At cylinder 1,000, offset +1.
-pub const AWAY: u8 = 9;
-
-// 612 bytes a sector are in force.
-pub const SET: u8 = 10;
-
-// Every bit that may be latched is.
-pub const LATCHED: u8 = 11;
-
-// And a write fault stands.
-pub const STANDING: u8 = 12;
-
-fn general(drive: u8) -> u16 {
-    match drive {
-        HARD => 0x226A,
-        SOFT => 0x226C,
-        BARE => 0x024A,
-        _ => 0x22AA,
-    }
+#[derive(Clone, Copy)]
+pub enum Drive {
+    // 003's 3180E with the options jumpered, hard sectored.
+    Hard,
+    // The same, soft sectored.
+    Soft,
+    // The drive of document 01's worked values, write protected.
+    Bare,
+    // A removable one, write protected, whose motor starts at once.
+    Removable,
+    // The same, with the widest gaps: they fill 255 + 2 x 255 bytes of a sector.
+    Wide,
 }
 
-fn sector(drive: u8) -> u16 {
-    match drive {
-        SOFT => 0,
-        BARE => 512,
-        _ => 594,
-    }
+#[derive(Clone, Copy)]
+pub enum How {
+    Fresh,
+    Stopped,
+    Starting,
+    Lost,
+    Busy,
+    // The head timer runs.
+    Switching,
+    Reading,
+    Writing,
+    // A transfer is open.
+    Open,
+    // At cylinder 1,000, offset +1.
+    Away,
+    // 612 bytes a sector are in force.
+    Set,
+    // Every bit that may be latched is.
+    Latched,
+    // And a write fault stands.
+    Standing,
 }
 
-fn gap(drive: u8) -> u8 {
-    match drive {
-        WIDE => 255,
-        _ => 16,
-    }
-}
-
-fn sync(drive: u8) -> u8 {
-    match drive {
-        BARE => 16,
-        WIDE => 255,
-        _ => 14,
-    }
-}
-
-fn protected(drive: u8) -> u16 {
-    match drive {
-        HARD => 0,
-        SOFT => 0,
-        _ => 1,
-    }
-}
+// A drive, and how it is.
+#[derive(Clone, Copy)]
+pub struct Unit(pub Drive, pub How);
 
 // 003, section 2: single track 3.5 ms, full stroke 35 ms at most, rezero 250 ms, start 20 s; 6.1.5: offset 2.5 ms.
-fn times_3180() -> Times {
-    Times {
-        settle: Micros(3475),
-        step: PerCylinder(25),
-        switch: Micros(0),
-        recalibrate: Micros(250_000),
-        start: Micros(20_000_000),
-        diagnostic: Micros(1_000_000),
-        offset: Micros(2500),
-    }
-}
+const TIMES_3180: Times = Times {
+    settle: Micros(3475),
+    step: PerCylinder(25),
+    switch: Micros(0),
+    recalibrate: Micros(250_000),
+    start: Micros(20_000_000),
+    diagnostic: Micros(1_000_000),
+    offset: Micros(2500),
+};
 
-fn times_worked() -> Times {
-    let none = Micros(0);
-    Times {
-        settle: Micros(3000),
-        step: PerCylinder(20),
-        switch: none,
-        recalibrate: none,
-        start: none,
-        diagnostic: none,
-        offset: none,
-    }
-}
+const TIMES_WORKED: Times = Times {
+    settle: Micros(3000),
+    step: PerCylinder(20),
+    switch: Micros(0),
+    recalibrate: Micros(0),
+    start: Micros(0),
+    diagnostic: Micros(0),
+    offset: Micros(0),
+};
 
-fn times(drive: u8) -> Times {
-    match drive {
-        HARD => times_3180(),
-        SOFT => times_3180(),
-        _ => times_worked(),
-    }
-}
-
-pub fn profile(drive: u8) -> Profile {
-    let shape = Shape {
+const HARD: Profile = Profile {
+    slot: 1,
+    vendor: 0x14,
+    general: 0x226A,
+    gap: 16,
+    sync: 14,
+    protected: 0,
+    shape: Shape {
         cylinders: Cylinder(1250),
         heads: Heads(7),
         track: Position(20_832),
-        sector: SectorSize(sector(drive)),
-    };
-    let times = times(drive);
-    Profile {
-        slot: 1,
-        vendor: 0x14,
-        general: general(drive),
-        gap: gap(drive),
-        sync: sync(drive),
-        protected: protected(drive),
-        shape,
-        times,
-    }
-}
+        sector: SectorSize(594),
+    },
+    times: TIMES_3180,
+};
 
-fn busy(how: u8) -> u32 {
-    match how {
-        STARTING => 5,
-        BUSY => 5,
-        _ => 0,
-    }
-}
-
-fn head(how: u8) -> u32 {
-    match how {
-        SWITCHING => 5,
-        _ => 0,
-    }
-}
-
-fn cylinder(how: u8) -> u16 {
-    match how {
-        AWAY => 1000,
-        _ => 0,
-    }
-}
-
-fn motor(how: u8) -> u8 {
-    match how {
-        STOPPED => Body::STOPPED,
-        STARTING => Body::STARTING,
-        _ => Body::UP,
-    }
-}
-
-fn latched(how: u8) -> u16 {
-    match how {
-        LATCHED => 0x1FB,
-        STANDING => 0x1FB,
-        READING => 0,
-        WRITING => 0,
-        _ => Latched::POWER_ON,
-    }
-}
-
-fn size(how: u8, first: u16) -> u16 {
-    match how {
-        SET => 612,
-        _ => first,
-    }
-}
-
-// 1 in one state alone.
-fn only(how: u8, state: u8) -> u8 {
-    if how == state {
-        return 1;
-    }
-    0
-}
-
-pub fn body(p: Profile, how: u8) -> Body {
-    let timers = Timers {
-        busy: Micros(busy(how)),
-        head: Micros(head(how)),
-    };
-    let arm = Arm {
-        cylinder: Cylinder(cylinder(how)),
-        offset: only(how, AWAY),
-        lost: only(how, LOST),
-    };
-    Body {
-        timers,
-        arm,
-        latched: Latched(latched(how)),
-        sector: SectorSize(size(how, p.shape.sector.0)),
-        head: Head(0),
-        motor: motor(how),
-        reading: only(how, READING),
-        writing: only(how, WRITING),
-        standing: only(how, STANDING) as u32,
+impl Drive {
+    fn profile(self) -> Profile {
+        let removable = Profile {
+            general: 0x22AA,
+            protected: 1,
+            times: TIMES_WORKED,
+            ..HARD
+        };
+        match self {
+            Drive::Hard => HARD,
+            Drive::Soft => Profile {
+                general: 0x226C,
+                shape: Shape {
+                    sector: SectorSize(0),
+                    ..HARD.shape
+                },
+                ..HARD
+            },
+            Drive::Bare => Profile {
+                general: 0x024A,
+                sync: 16,
+                shape: Shape {
+                    sector: SectorSize(512),
+                    ..HARD.shape
+                },
+                ..removable
+            },
+            Drive::Removable => removable,
+            Drive::Wide => Profile {
+                gap: 255,
+                sync: 255,
+                ..removable
+            },
+        }
     }
 }
 
 // A transfer with one bit taken.
-fn one_bit() -> Transfer {
-    Transfer {
-        waiting: Micros(0),
-        bits: 1,
-        response: 0,
-        way: Transfer::TAKING,
-        count: 1,
-        acknowledge: 0,
+const ONE_BIT: Transfer = Transfer {
+    waiting: Micros(0),
+    bits: 1,
+    response: 0,
+    way: Transfer::TAKING,
+    count: 1,
+    acknowledge: 0,
+};
+
+impl How {
+    // What a fresh drive's body becomes.
+    fn body(self, fresh: Body) -> Body {
+        let timers = fresh.timers;
+        let arm = fresh.arm;
+        let busy = Timers {
+            busy: Micros(5),
+            ..timers
+        };
+        match self {
+            How::Fresh => fresh,
+            How::Open => fresh,
+            How::Stopped => Body {
+                motor: Body::STOPPED,
+                ..fresh
+            },
+            How::Starting => Body {
+                timers: busy,
+                motor: Body::STARTING,
+                ..fresh
+            },
+            How::Lost => Body {
+                arm: Arm { lost: 1, ..arm },
+                ..fresh
+            },
+            How::Busy => Body {
+                timers: busy,
+                ..fresh
+            },
+            How::Switching => Body {
+                timers: Timers {
+                    head: Micros(5),
+                    ..timers
+                },
+                ..fresh
+            },
+            How::Reading => Body {
+                latched: Latched(0),
+                reading: 1,
+                ..fresh
+            },
+            How::Writing => Body {
+                latched: Latched(0),
+                writing: 1,
+                ..fresh
+            },
+            How::Away => Body {
+                arm: Arm {
+                    cylinder: Cylinder(1000),
+                    offset: 1,
+                    ..arm
+                },
+                ..fresh
+            },
+            How::Set => Body {
+                sector: SectorSize(612),
+                ..fresh
+            },
+            How::Latched => Body {
+                latched: Latched(0x1FB),
+                ..fresh
+            },
+            How::Standing => Body {
+                latched: Latched(0x1FB),
+                standing: 1,
+                ..fresh
+            },
+        }
+    }
+
+    fn transfer(self) -> Transfer {
+        match self {
+            How::Open => ONE_BIT,
+            _ => Transfer::none(),
+        }
     }
 }
 
-pub fn state(p: Profile, how: u8) -> State {
-    let body = body(p, how);
-    if how == OPEN {
-        let transfer = one_bit();
-        return State { body, transfer };
+impl Unit {
+    pub fn profile(self) -> Profile {
+        self.0.profile()
     }
-    let transfer = Transfer::none();
-    State { body, transfer }
+
+    pub fn state(self) -> State {
+        let fresh = State::fresh(self.profile());
+        State {
+            body: self.1.body(fresh.body),
+            transfer: self.1.transfer(),
+        }
+    }
+}
+
+impl fmt::Display for Drive {
+    fn fmt<W: fmt::Write>(&self, f: &mut fmt::Formatter<W>) -> fmt::Result {
+        f.write_str(match self {
+            Drive::Hard => "hard",
+            Drive::Soft => "soft",
+            Drive::Bare => "bare",
+            Drive::Removable => "removable",
+            Drive::Wide => "wide",
+        })
+    }
+}
+
+impl fmt::Display for How {
+    fn fmt<W: fmt::Write>(&self, f: &mut fmt::Formatter<W>) -> fmt::Result {
+        f.write_str(match self {
+            How::Fresh => "fresh",
+            How::Stopped => "stopped",
+            How::Starting => "starting",
+            How::Lost => "lost",
+            How::Busy => "busy",
+            How::Switching => "switching",
+            How::Reading => "reading",
+            How::Writing => "writing",
+            How::Open => "open",
+            How::Away => "away",
+            How::Set => "set",
+            How::Latched => "latched",
+            How::Standing => "standing",
+        })
+    }
+}
+
+impl fmt::Display for Unit {
+    fn fmt<W: fmt::Write>(&self, f: &mut fmt::Formatter<W>) -> fmt::Result {
+        write!(f, "{} {}", self.0, self.1)
+    }
 }

@@ -5,10 +5,11 @@ ghost use Rattle.std.specs.Prelude.{◌≡◌};
 ghost use Rattle.word_acts.specs.Acts.{distance_of, seek_time, motor_for, busy_for, seek_of, homed_of, recalibrate_of, left_latched, cleared_of, stop_of, start_of, offset_of, sector_of, acted_of};
 
 use counts::{Cylinder, Distance, Micros, SectorSize};
-use drive_record::{Arm, Body, Latched};
+use drive_record::{Arm, Body, Latched, Timers};
 use pack_profile::Times;
 
 // An offset is given by the arm's code.
+// Stays: acted promises its answer for every code (offset_of), and an enum of three would leave the others out.
 #[derive(Clone, Copy)]
 pub enum Act {
     Seek(Cylinder),
@@ -32,10 +33,7 @@ const HOME: Arm = Arm {
 fn distance(from: Cylinder, to: Cylinder) -> Distance
     ensures { result ≡ distance_of from to }
 {
-    if to.0 < from.0 {
-        return Distance(from.0 - to.0);
-    }
-    Distance(to.0 - from.0)
+    Distance(from.0.abs_diff(to.0))
 }
 
 // A distance becomes a time here alone, and no distance no time; a timer holds no more than 32 bits.
@@ -47,20 +45,14 @@ fn seek_time(t: Times, distance: Distance) -> Micros
         return Micros(0);
     }
     let whole = t.settle.0 as u64 + t.step.0 as u64 * distance.0 as u64;
-    if whole > 4_294_967_295 {
-        return Micros(4_294_967_295);
-    }
-    Micros(whole as u32)
+    Micros(whole.min(u32::MAX as u64) as u32)
 }
 
 // A starting motor is up when its busy timer is 0.
 fn motor_for(motor: u8, t: Micros) -> u8
     ensures { result ≡ motor_for motor t }
 {
-    if motor != Body::STARTING {
-        return motor;
-    }
-    if t.0 != 0 {
+    if motor != Body::STARTING || t.0 != 0 {
         return motor;
     }
     Body::UP
@@ -71,12 +63,15 @@ fn motor_for(motor: u8, t: Micros) -> u8
 fn busy_for(b: Body, t: Micros) -> Body
     ensures { result ≡ busy_for t b }
 {
-    let mut timers = b.timers;
-    timers.busy = t;
-    let mut e = b;
-    e.timers = timers;
-    e.motor = motor_for(b.motor, t);
-    e
+    let timers = Timers {
+        busy: t,
+        ..b.timers
+    };
+    Body {
+        timers,
+        motor: motor_for(b.motor, t),
+        ..b
+    }
 }
 
 fn seek(t: Times, b: Body, to: Cylinder) -> Body
@@ -86,20 +81,15 @@ fn seek(t: Times, b: Body, to: Cylinder) -> Body
     let arm = Arm {
         cylinder: to,
         offset: 0,
-        lost: b.arm.lost,
+        ..b.arm
     };
-    let mut e = b;
-    e.arm = arm;
-    busy_for(e, seek_time(t, distance(from, to)))
+    busy_for(Body { arm, ..b }, seek_time(t, distance(from, to)))
 }
 
 fn homed(b: Body) -> Body
     ensures { result ≡ homed_of b }
 {
-    let arm = HOME;
-    let mut e = b;
-    e.arm = arm;
-    e
+    Body { arm: HOME, ..b }
 }
 
 fn recalibrate(t: Times, b: Body) -> Body
@@ -123,17 +113,19 @@ fn left_latched(b: Body) -> Latched
 fn clear(b: Body) -> Body
     ensures { result ≡ cleared_of b }
 {
-    let mut e = b;
-    e.latched = left_latched(b);
-    e
+    Body {
+        latched: left_latched(b),
+        ..b
+    }
 }
 
 fn stop(b: Body) -> Body
     ensures { result ≡ stop_of b }
 {
-    let mut e = b;
-    e.motor = Body::STOPPED;
-    e
+    Body {
+        motor: Body::STOPPED,
+        ..b
+    }
 }
 
 #[tactic(auto, unfolding(crate::specs::Acts::start_of))]
@@ -143,26 +135,27 @@ fn start(t: Times, b: Body) -> Body
     if b.motor != Body::STOPPED {
         return b;
     }
-    let home = homed(b);
-    let mut e = home;
-    e.motor = Body::STARTING;
+    let e = Body {
+        motor: Body::STARTING,
+        ..homed(b)
+    };
     busy_for(e, t.start)
 }
 
 fn offset(t: Times, b: Body, code: u8) -> Body
     ensures { result ≡ offset_of t code b }
 {
-    let mut e = b;
-    e.arm.offset = code;
-    busy_for(e, t.offset)
+    let arm = Arm {
+        offset: code,
+        ..b.arm
+    };
+    busy_for(Body { arm, ..b }, t.offset)
 }
 
 fn sector(b: Body, size: SectorSize) -> Body
     ensures { result ≡ sector_of size b }
 {
-    let mut e = b;
-    e.sector = size;
-    e
+    Body { sector: size, ..b }
 }
 
 #[tactic(auto, unfolding(crate::specs::Acts::acted_of))]

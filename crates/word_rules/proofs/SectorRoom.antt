@@ -5,7 +5,8 @@ use mathlib.Core.Bool.{false}
 use Prim.Native.Nat.{ℕ, ◌<◌}
 use lib.Dec.{eqb}
 use Rattle.counts.specs.declared.SectorSize.{SectorSize}
-use Rattle.counts.proofs.Choice.{by_test, never}
+use Rattle.counts.proofs.Choice.{by_test}
+use Rattle.std.specs.Prelude.{Result, Ok, Err}
 use Rattle.pack_profile.specs.declared.Profile.{Profile}
 use Rattle.pack_profile.specs.Profile.{gaps_of}
 use Rattle.pack_profile.specs.General.{soft}
@@ -21,7 +22,8 @@ use Rattle.word_acts.specs.declared.Act.TheVariants.{Seek, Recalibrate, Clear, S
 use Rattle.word_acts.specs.Acts.{busy_for, start_of, acted_of}
 use Rattle.word_acts.proofs.Keep.{Allowed}
 use Rattle.word_table.specs.declared.Effect.{Effect}
-use Rattle.word_table.specs.declared.Effect.TheVariants.{Fails, Status, Configuration, Does}
+use Rattle.word_table.specs.declared.Effect.TheVariants.{Status, Configuration, Does}
+use Rattle.word_table.specs.declared.WordFault.{WordFault}
 use Rattle.word_table.specs.Word.{sixteen_of, code_of}
 use Rattle.word_table.specs.Effect.{effect_of}
 use Rattle.word_table.proofs.Lawful.{Lawful, effect_lawful}
@@ -35,7 +37,7 @@ carried_room : (p : Profile) (b : Body) (n : ℕ) → code_of (sixteen_of n) ≡
 unfolding carry_of done_of acted_of
 carried_room p b n nine done =
     ⊎_elim
-    (λ fails. absurd (never (cc (rw fails.1 at done))))
+    (λ fails. cc (rw fails.1 at done))
     (λ sets. rw sets (rw sets at (effect_lawful p b n)).1)
     (sector_word p b n nine)
 
@@ -44,7 +46,7 @@ pub sector_room : (p : Profile) (s : State) (n : ℕ) → code_of (sixteen_of n)
 unfolding plain_of
 sector_room p s n nine =
     by_test (λ (a : Answered). a.outcome ≡ Done → gaps_of p < a.state.body.sector.0) (refuses_b s) _ _
-    (λ _ done. absurd (never (cc)))
+    (λ _ done. cc)
     (λ _ done. carried_room p s.body n nine done)
 
 -- whatever the word: the size stays, or the new one is greater than the gaps
@@ -62,12 +64,12 @@ act_sized p b (Offset code) h = inl refl
 act_sized p b Diagnose h = inl refl
 act_sized p b (Sector size) h = inr h.1
 
-done_sized : (p : Profile) (b : Body) (e : Effect) → Lawful p e → Sized p b.sector (done_of p b e).body.sector
+done_sized : (p : Profile) (b : Body) (e : Result Effect WordFault) → Lawful p e → Sized p b.sector (done_of p b e).body.sector
 unfolding done_of latch_of
-done_sized p b (Fails value) h = inl refl
-done_sized p b Status h = inl refl
-done_sized p b (Configuration modifier) h = inl refl
-done_sized p b (Does act) h = act_sized p b act h
+done_sized p b (Err fault) h = inl refl
+done_sized p b (Ok Status) h = inl refl
+done_sized p b (Ok (Configuration modifier)) h = inl refl
+done_sized p b (Ok (Does act)) h = act_sized p b act h
 
 pub word_sized : (p : Profile) (b : Body) (n : ℕ) → Sized p b.sector (carry_of p b n).body.sector
 unfolding carry_of
@@ -80,16 +82,7 @@ plain_sized p s n =
 
 -- the same profile with other gaps
 abbrev with_gaps : ℕ → ℕ → Profile → Profile
-with_gaps gap sync p = record {
-  slot = p.slot;
-  vendor = p.vendor;
-  general = p.general;
-  gap = gap;
-  sync = sync;
-  protected = p.protected;
-  shape = p.shape;
-  times = p.times;
-}
+with_gaps gap sync p = record p { gap = gap; sync = sync }
 
 -- "Sizes already stored in pack files are still read": no gap makes a field refused, or a record malformed
 pub stored_read : (p : Profile) (gap sync : ℕ) → valid_b (with_gaps gap sync p) ≡ valid_b p

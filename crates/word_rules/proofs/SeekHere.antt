@@ -3,6 +3,7 @@ use mathlib.Core.Path.{◌≡◌, sym}
 use mathlib.Core.Bool.{Bool, true, false, ◌&&◌, ◌||◌, not, false≢true}
 use Prim.Native.Nat.{ℕ}
 use lib.Dec.{eqb}
+use Rattle.std.specs.Prelude.{Ok}
 use Rattle.pack_profile.specs.declared.Profile.{Profile}
 use Rattle.pack_profile.specs.Valid.{valid_b}
 use Rattle.handshake.specs.Transfer.{open_b}
@@ -26,7 +27,7 @@ still false false busy head h = h
 still false true true head h = h
 still false true false head h = absurd (false≢true (sym h))
 
-pub next_taken : (p : Profile) (s : State) (n : ℕ) → refuses_b s ≡ false → effect_of p s.body n ≡ Does (Seek s.body.arm.cylinder)
+pub next_taken : (p : Profile) (s : State) (n : ℕ) → refuses_b s ≡ false → effect_of p s.body n ≡ Ok (Does (Seek s.body.arm.cylinder))
     → refuses_b (plain_of p s n).state ≡ false
 unfolding complete_b busy_for acted_of done_of carry_of plain_of
 next_taken p s n taken seek =

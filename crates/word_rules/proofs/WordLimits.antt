@@ -4,6 +4,7 @@ use mathlib.Core.Bool.{true}
 use Prim.Native.Nat.{ℕ}
 use native.Mathlib.Omega.{arith}
 use Rattle.counts.proofs.Choice.{by_test}
+use Rattle.std.specs.Prelude.{Result, Ok, Err}
 use Rattle.pack_profile.specs.declared.Profile.{Profile}
 use Rattle.pack_profile.specs.Valid.{valid_b}
 use Rattle.drive_record.specs.declared.Body.{Body}
@@ -13,19 +14,20 @@ use Rattle.drive_record.proofs.WithinLimits.{Parts, parts, whole}
 use Rattle.word_acts.proofs.ActLimits.{latch_keeps}
 use Rattle.word_acts.proofs.Keep.{act_keeps}
 use Rattle.word_table.specs.declared.Effect.{Effect}
-use Rattle.word_table.specs.declared.Effect.TheVariants.{Fails, Status, Configuration, Does}
-use Rattle.word_table.specs.Effect.{effect_of}
+use Rattle.word_table.specs.declared.Effect.TheVariants.{Status, Configuration, Does}
+use Rattle.word_table.specs.declared.WordFault.{WordFault}
+use Rattle.word_table.specs.Effect.{bit_of, effect_of}
 use Rattle.word_table.proofs.Lawful.{Lawful, effect_lawful}
 use Rattle.word_rules.specs.declared.Answered.{Answered}
 use Rattle.word_rules.specs.Rules.{done_of, carry_of, refuses_b, refused_plain, plain_of}
 
 module _ (p : Profile) (v : valid_b p ≡ true) where
-  done_keeps : (b : Body) (e : Effect) → Lawful p e → Parts p b → Parts p (done_of p b e).body
+  done_keeps : (b : Body) (e : Result Effect WordFault) → Lawful p e → Parts p b → Parts p (done_of p b e).body
   unfolding done_of
-  done_keeps b (Fails value) h q = latch_keeps p b value h.0 h.1 q
-  done_keeps b Status h q = q
-  done_keeps b (Configuration modifier) h q = q
-  done_keeps b (Does act) h q = act_keeps p v b q act h
+  done_keeps b (Err fault) h q = latch_keeps p b (bit_of fault) h.0 h.1 q
+  done_keeps b (Ok Status) h q = q
+  done_keeps b (Ok (Configuration modifier)) h q = q
+  done_keeps b (Ok (Does act)) h q = act_keeps p v b q act h
 
   carry_keeps : (b : Body) (n : ℕ) → Parts p b → Parts p (carry_of p b n).body
   unfolding carry_of

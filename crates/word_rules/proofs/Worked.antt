@@ -2,7 +2,6 @@
 use mathlib.Core.Path.{◌≡◌, refl}
 use mathlib.Core.List.{map}
 use lib.Count.{ones_in}
-use Rattle.counts.specs.First.{first_of}
 use Rattle.drive_record.specs.Faults.{latch_of}
 use Rattle.drive_record.specs.Status.{complete_b, protected_bit, stopped_bit, status_of}
 use Rattle.word_acts.specs.Acts.{seek_time, busy_for, acted_of}
@@ -14,5 +13,5 @@ use Rattle.word_rules.specs.Rules.{done_of, carry_of, plain_of}
 use Rattle.word_rules.specs.Worked.{WorkedLine, after_worked, table}
 
 pub worked_values : map (λ (l : WorkedLine). after_worked l.word) table ≡ map (λ (l : WorkedLine). l.came) table
-unfolding ones_in first_of latch_of complete_b protected_bit stopped_bit status_of seek_time busy_for acted_of odd_b with_parity row_of found_of option_b size_b operand_b blocked_b act_of order_of effect_of configuration_of done_of carry_of plain_of
+unfolding ones_in latch_of complete_b protected_bit stopped_bit status_of seek_time busy_for acted_of odd_b with_parity row_of found_of option_b size_b operand_b blocked_b act_of order_of effect_of configuration_of done_of carry_of plain_of
 worked_values = refl

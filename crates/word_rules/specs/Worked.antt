@@ -1,10 +1,8 @@
 -- "Worked values": a single table, each line on a fresh drive.
-use Rattle.std.specs.Prelude.{ℕ, ◌+◌, ◌*◌, ◌^◌, List, [], ◌∷◌}
+use Rattle.std.specs.Prelude.{ℕ, ◌+◌, ◌*◌, ◌^◌, List, [], ◌∷◌, Option, Some, None}
 use Rattle.pack_profile.specs.declared.Profile.{Profile}
 use Rattle.drive_record.specs.State.{fresh_of}
 use Rattle.word_rules.specs.declared.Answered.{Answered}
-use Rattle.word_rules.specs.declared.Told.{Told}
-use Rattle.word_rules.specs.declared.Told.TheVariants.{Nothing, Word}
 use Rattle.word_rules.specs.Responses.{configuration_of}
 use Rattle.word_rules.specs.Rules.{plain_of}
 
@@ -35,7 +33,7 @@ word_and_parity word parity = word * 2 + parity
 
 -- what is seen of the drive after a word; sectors: configuration 6
 pub record WorkedSeen : Type 0 where
-  pub told : Told
+  pub told : Option ℕ
   pub latched : ℕ
   pub cylinder : ℕ
   pub busy : ℕ
@@ -59,7 +57,7 @@ pub record WorkedLine : Type 0 where
   pub word : ℕ
   pub came : WorkedSeen
 
-abbrev pub line : ℕ → Told → ℕ → ℕ → ℕ → ℕ → ℕ → WorkedLine
+abbrev pub line : ℕ → Option ℕ → ℕ → ℕ → ℕ → ℕ → ℕ → WorkedLine
 line n told latched cylinder busy size sectors = record {
   word = n;
   came = record { told = told; latched = latched; cylinder = cylinder; busy = busy; size = size; sectors = sectors };
@@ -71,12 +69,12 @@ bit8 = 2 ^ 8
 
 abbrev pub table : List WorkedLine
 table =
-    line (word_and_parity 0x2000 0) (Word (word_and_parity 0x0100 0)) bit8 0 0 512 40  -- "A. 2000h, parity 0, fresh: 0100h, parity 0."
-    ∷ line (word_and_parity 0x0000 0) Nothing (bit8 + 2 ^ 7) 0 0 512 40  -- "B. 0000h, parity 0: bit 7."
-    ∷ line (word_and_parity 0x04E1 0) Nothing bit8 1249 27_980 512 40  -- "C. 04E1h, parity 0: cylinder 1,249."
-    ∷ line (word_and_parity 0x04E2 0) Nothing (bit8 + 2 ^ 5) 0 0 512 40  -- "D. 04E2h, parity 0: bit 5."
-    ∷ line (word_and_parity 0x90A2 0) Nothing bit8 0 0 162 128  -- "E. 90A2h, parity 0: 162 bytes, 128 sectors."
-    ∷ line (word_and_parity 0x90A1 0) Nothing (bit8 + 2 ^ 5) 0 0 512 40  -- "F. 90A1h, parity 0: bit 5."
-    ∷ line (word_and_parity 0x3F00 1) (Word (word_and_parity 0x1400 1)) bit8 0 0 512 40  -- "G. 3F00h, parity 1: 1400h, parity 1."
-    ∷ line (word_and_parity 0x000A 1) Nothing bit8 10 3200 512 40  -- "H. seek 0 to 10: busy 3,200."
+    line (word_and_parity 0x2000 0) (Some (word_and_parity 0x0100 0)) bit8 0 0 512 40  -- "A. 2000h, parity 0, fresh: 0100h, parity 0."
+    ∷ line (word_and_parity 0x0000 0) None (bit8 + 2 ^ 7) 0 0 512 40  -- "B. 0000h, parity 0: bit 7."
+    ∷ line (word_and_parity 0x04E1 0) None bit8 1249 27_980 512 40  -- "C. 04E1h, parity 0: cylinder 1,249."
+    ∷ line (word_and_parity 0x04E2 0) None (bit8 + 2 ^ 5) 0 0 512 40  -- "D. 04E2h, parity 0: bit 5."
+    ∷ line (word_and_parity 0x90A2 0) None bit8 0 0 162 128  -- "E. 90A2h, parity 0: 162 bytes, 128 sectors."
+    ∷ line (word_and_parity 0x90A1 0) None (bit8 + 2 ^ 5) 0 0 512 40  -- "F. 90A1h, parity 0: bit 5."
+    ∷ line (word_and_parity 0x3F00 1) (Some (word_and_parity 0x1400 1)) bit8 0 0 512 40  -- "G. 3F00h, parity 1: 1400h, parity 1."
+    ∷ line (word_and_parity 0x000A 1) None bit8 10 3200 512 40  -- "H. seek 0 to 10: busy 3,200."
     ∷ []

@@ -10,26 +10,20 @@ use drive_record::{Body, Latched, Outcome, State, faults, status};
 use pack_profile::Profile;
 use word_table::{Effect, decide};
 
-// The response: a word of seventeen bits, its parity last.
-#[derive(Clone, Copy)]
-pub enum Told {
-    Nothing,
-    Word(u32),
-}
-
-// A word carried out on a drive, which leaves the transfer alone.
+// A word carried out on a drive, which leaves the transfer alone. told: the response, a word of seventeen bits, its parity last.
 #[derive(Clone, Copy)]
 pub struct Carried {
     pub body: Body,
-    pub told: Told,
+    pub told: Option<u32>,
     pub outcome: Outcome,
 }
 
 // A word by the plain word rules: the drive that it leaves, the response, and whether a fault rule applied.
+// Stays: no plainer: carry_of and plain_of name body and state, and a third name for both would say less than either.
 #[derive(Clone, Copy)]
 pub struct Answered {
     pub state: State,
-    pub told: Told,
+    pub told: Option<u32>,
     pub outcome: Outcome,
 }
 
@@ -38,7 +32,7 @@ fn say(b: Body, word: u16) -> Carried
 {
     Carried {
         body: b,
-        told: Told::Word(responses::with_parity(word)),
+        told: Some(responses::with_parity(word)),
         outcome: Outcome::Done,
     }
 }
@@ -49,16 +43,19 @@ pub fn carry(p: Profile, b: Body, n: u32) -> Carried
     ensures { result ≡ carry_of p b n }
 {
     match decide::effect(p, b, n) {
-        Effect::Fails(bit) => Carried {
-            body: faults::latch(b, bit),
-            told: Told::Nothing,
+        Err(fault) => Carried {
+            body: faults::latch(b, fault.bit()),
+            told: None,
             outcome: Outcome::Fault,
         },
-        Effect::Status => say(b, status::status(p, b)),
-        Effect::Configuration(modifier) => say(b, responses::configuration(p, b.sector, modifier)),
-        Effect::Does(act) => Carried {
+        Ok(Effect::Status) => say(b, status::status(p, b)),
+        Ok(Effect::Configuration(modifier)) => say(
+            b,
+            responses::configuration(p, b.sector, modifier),
+        ),
+        Ok(Effect::Does(act)) => Carried {
             body: word_acts::acted(p.times, b, act),
-            told: Told::Nothing,
+            told: None,
             outcome: Outcome::Done,
         },
     }
@@ -68,17 +65,16 @@ pub fn carry(p: Profile, b: Body, n: u32) -> Carried
 fn refuses(s: State) -> bool
     ensures { result ≡ refuses_b s }
 {
-    (s.body.reading == 1) | (s.body.writing == 1) | !status::complete(s)
+    s.body.reading == 1 || s.body.writing == 1 || !status::complete(s)
 }
 
 fn refuse(s: State) -> Answered
     ensures { result ≡ refused_plain s }
 {
-    let transfer = s.transfer;
     let body = faults::latch(s.body, Latched::INTERFACE);
     Answered {
-        state: State { body, transfer },
-        told: Told::Nothing,
+        state: State { body, ..s },
+        told: None,
         outcome: Outcome::Fault,
     }
 }
@@ -87,13 +83,10 @@ fn answer(s: State, c: Carried) -> Answered
     ensures { result ≡ answering s c }
 {
     let body = c.body;
-    let told = c.told;
-    let outcome = c.outcome;
-    let transfer = s.transfer;
     Answered {
-        state: State { body, transfer },
-        told,
-        outcome,
+        state: State { body, ..s },
+        told: c.told,
+        outcome: c.outcome,
     }
 }
 

@@ -12,16 +12,13 @@ pub fn with_parity(word: u16) -> u32
     ensures { result ≡ with_parity word }
 {
     let w = word as u32;
-    w * 2 + (1 - u32::count_ones(w) % 2)
+    w * 2 + (1 - w.count_ones() % 2)
 }
 
 fn when(test: bool, x: u16) -> u16
     ensures { result ≡ whenOf test x }
 {
-    if test {
-        return x;
-    }
-    0
+    u16::from(test) * x
 }
 
 // Removable heads in the high byte, fixed ones in the low.
@@ -38,13 +35,11 @@ fn heads(removable: bool, n: Heads) -> u16
 fn sectors(track: u16, size: u16) -> u16
     ensures { result ≡ sectors_of track size }
 {
-    if size == 0 {
-        return 0;
-    }
-    track / size
+    track.checked_div(size).unwrap_or(0)
 }
 
 // Configuration by modifier, with the sector size now in force.
+// Stays: an enum of ten modifiers would be named here alone, where the numbers are document 01's own.
 #[tactic(auto, unfolding(crate::specs::Responses::configuration_of))]
 pub(crate) fn configuration(p: Profile, sector: SectorSize, modifier: u8) -> u16
     ensures { result ≡ configuration_of p sector modifier }

@@ -2,12 +2,12 @@
 ghost use Rattle.std.specs.Prelude.{◌≡◌};
 ghost use Rattle.pack_profile.specs.Profile.{gaps_of};
 ghost use Rattle.word_table.specs.Word.{sixteen_of, code_of, modifier_of, bits11to0, odd_b};
-ghost use Rattle.word_table.specs.Effect.{option_b, size_b, operand_b, act_of, blocked_b, order_of, effect_of};
+ghost use Rattle.word_table.specs.Effect.{option_b, size_b, operand_b, act_of, blocked_b, effect_of};
 
-use crate::table::Row;
-use crate::{Effect, table};
+use crate::table::{Asks, Command, Needs};
+use crate::{Effect, WordFault, table};
 use counts::{Cylinder, SectorSize};
-use drive_record::{Body, Latched, status};
+use drive_record::{Body, status};
 use pack_profile::Profile;
 use word_acts::Act;
 
@@ -16,7 +16,7 @@ use word_acts::Act;
 fn odd(n: u32) -> bool
     ensures { result ≡ odd_b n }
 {
-    u32::count_ones(n % 131_072) % 2 == 1
+    (n % 131_072).count_ones() % 2 == 1
 }
 
 // The sixteen bits in front of the parity.
@@ -45,14 +45,14 @@ fn number(w: u16) -> u16
 }
 
 #[tactic(auto, unfolding(crate::specs::Effect::option_b))]
-fn option_met(p: Profile, option: u8) -> bool
-    ensures { result ≡ option_b p option }
+fn option_met(p: Profile, needs: Needs) -> bool
+    ensures { result ≡ option_b p needs }
 {
-    match option {
-        Row::MOTOR => pack_profile::general::has_motor_option(p.general),
-        Row::OFFSETS => pack_profile::general::has_offset_option(p.general),
-        Row::HARD => !pack_profile::general::soft(p.general),
-        _ => true,
+    match needs {
+        Needs::Free => true,
+        Needs::Motor => pack_profile::general::has_motor_option(p.general),
+        Needs::Offsets => pack_profile::general::has_offset_option(p.general),
+        Needs::Hard => !pack_profile::general::soft(p.general),
     }
 }
 
@@ -68,76 +68,67 @@ fn gaps(p: Profile) -> u16
 fn size_ok(p: Profile, size: u16) -> bool
     ensures { result ≡ size_b p size }
 {
-    pack_profile::valid::hard_size(size) & (gaps(p) < size)
+    pack_profile::valid::hard_size(size) && gaps(p) < size
 }
 
 #[tactic(auto, unfolding(crate::specs::Effect::operand_b))]
-fn operand_ok(p: Profile, act: u8, w: u16) -> bool
-    ensures { result ≡ operand_b p act w }
+fn operand_ok(p: Profile, command: Command, w: u16) -> bool
+    ensures { result ≡ operand_b p command w }
 {
-    match act {
-        Row::SEEK => number(w) < p.shape.cylinders.0,
-        Row::SECTOR => size_ok(p, number(w)),
+    match command {
+        Command::Seek => number(w) < p.shape.cylinders.0,
+        Command::Sector => size_ok(p, number(w)),
         _ => w % 256 == 0,
     }
 }
 
 #[tactic(auto, unfolding(crate::specs::Effect::act_of))]
-fn acting(act: u8, w: u16) -> Effect
-    ensures { result ≡ act_of act w }
+fn acting(command: Command, w: u16) -> Effect
+    ensures { result ≡ act_of command w }
 {
-    match act {
-        Row::SEEK => Effect::Does(Act::Seek(Cylinder(number(w)))),
-        Row::RECALIBRATE => Effect::Does(Act::Recalibrate),
-        Row::STATUS => Effect::Status,
-        Row::CONFIGURATION => Effect::Configuration(modifier(w)),
-        Row::CLEAR => Effect::Does(Act::Clear),
-        Row::STOP => Effect::Does(Act::Stop),
-        Row::START => Effect::Does(Act::Start),
-        Row::RESTORE => Effect::Does(Act::Offset(0)),
-        Row::PLUS => Effect::Does(Act::Offset(1)),
-        Row::MINUS => Effect::Does(Act::Offset(2)),
-        Row::DIAGNOSE => Effect::Does(Act::Diagnose),
-        Row::SECTOR => Effect::Does(Act::Sector(SectorSize(number(w)))),
-        _ => Effect::Fails(Latched::INVALID),
+    match command {
+        Command::Seek => Effect::Does(Act::Seek(Cylinder(number(w)))),
+        Command::Recalibrate => Effect::Does(Act::Recalibrate),
+        Command::Status => Effect::Status,
+        Command::Configuration => Effect::Configuration(modifier(w)),
+        Command::Clear => Effect::Does(Act::Clear),
+        Command::Stop => Effect::Does(Act::Stop),
+        Command::Start => Effect::Does(Act::Start),
+        Command::Restore => Effect::Does(Act::Offset(0)),
+        Command::Plus => Effect::Does(Act::Offset(1)),
+        Command::Minus => Effect::Does(Act::Offset(2)),
+        Command::Diagnose => Effect::Does(Act::Diagnose),
+        Command::Sector => Effect::Does(Act::Sector(SectorSize(number(w)))),
     }
 }
 
 // Seek, recalibrate or offset when not ready; seek or offset with the position lost.
 #[tactic(auto, unfolding(crate::specs::Effect::blocked_b))]
-fn blocked(b: Body, asks: u8) -> bool
+fn blocked(b: Body, asks: Asks) -> bool
     ensures { result ≡ blocked_b b asks }
 {
-    ((Row::READY <= asks) & !status::ready(b)) | ((Row::POSITION <= asks) & (b.arm.lost != 0))
+    match asks {
+        Asks::Nothing => false,
+        Asks::Ready => !status::ready(b),
+        Asks::Position => !status::ready(b) || b.arm.lost != 0,
+    }
 }
 
-// The order for a whole word, the row being the one that its code and modifier find.
-#[tactic(auto, unfolding(crate::specs::Effect::order_of))]
-fn order(p: Profile, b: Body, n: u32, r: Row, w: u16) -> Effect
-    ensures { result ≡ order_of p b n r w }
-{
-    let option = r.option;
-    let asks = r.asks;
-    let act = r.act;
-    let invalid = !(option_met(p, option) & operand_ok(p, act, w));
-    let stuck = blocked(b, asks);
-    if !odd(n) {
-        return Effect::Fails(Latched::PARITY);
-    }
-    if invalid {
-        return Effect::Fails(Latched::INVALID);
-    }
-    if stuck {
-        return Effect::Fails(Latched::SEEK);
-    }
-    acting(act, w)
-}
-
-// What a word with its parity comes to on a drive.
-#[tactic(auto, unfolding(crate::specs::Effect::effect_of))]
-pub fn effect(p: Profile, b: Body, n: u32) -> Effect
+// What a word with its parity comes to on a drive, in the order of document 01.
+#[tactic(auto, unfolding(crate::specs::Effect::order_of, crate::specs::Effect::effect_of))]
+pub fn effect(p: Profile, b: Body, n: u32) -> Result<Effect, WordFault>
     ensures { result ≡ effect_of p b n }
 {
+    if !odd(n) {
+        return Err(WordFault::Parity);
+    }
     let w = word(n);
-    order(p, b, n, table::found(code(w), modifier(w)), w)
+    let row = table::found(code(w), modifier(w)).ok_or(WordFault::Invalid)?;
+    if !option_met(p, row.needs) || !operand_ok(p, row.command, w) {
+        return Err(WordFault::Invalid);
+    }
+    if blocked(b, row.asks) {
+        return Err(WordFault::Blocked);
+    }
+    Ok(acting(row.command, w))
 }

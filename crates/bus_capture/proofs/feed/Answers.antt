@@ -1,30 +1,26 @@
 -- What was run so far and what is to come make the whole.
 use Rattle.std.proofs.Common.{arith}
 use Rattle.counts.proofs.Parts.{rest}
-use Rattle.bus_capture.proofs.Turning.{stops_at_end, stops_before, event_fewer, answers_on, sample_fewer, passes}
+use Rattle.bus_capture.proofs.Turning.{left_short, left_full, event_fewer, answers_along, sample_fewer, passes_along}
 use Rattle.bus_capture.proofs.feed.Goals as goal
 
 pub returns-then-at : goal.returns-then-at
-returns-then-at c =
-    stops_before c.loop-used.invariant _ c.loop-used-test.true (rw rest at c.sample_of-to.ensures) _ _ _ c.in-Event.ensures (omega arith)
+returns-then-at c = left_full c.loop-rest.invariant _ c.loop-rest-test.true c.sample_of-to.ensures c.in-Some.ensures (omega arith)
 
-pub loop-used-smaller-in-Event : goal.loop-used-smaller-in-Event
-loop-used-smaller-in-Event c =
-    rw c.answered-w.ensures.reaches
-    (event_fewer c.loop-used.invariant _ c.loop-used-test.true (rw rest at c.sample_of-to.ensures) _ _ _ c.in-Event.ensures)
+pub loop-rest-smaller-in-Some : goal.loop-rest-smaller-in-Some
+loop-rest-smaller-in-Some c =
+    event_fewer c.loop-rest.invariant _ c.loop-rest-test.true c.sample_of-to.ensures c.in-Some.ensures c.answered-w.result.session c.answered-w.ensures.reaches
 
-pub loop-used-preserved-in-Event : goal.loop-used-preserved-in-Event
-loop-used-preserved-in-Event c =
-    answers_on c.loop-used.invariant _ c.loop-used-test.true (rw rest at c.sample_of-to.ensures) _ _ _ c.in-Event.ensures
+pub loop-rest-preserved-in-Some : goal.loop-rest-preserved-in-Some
+loop-rest-preserved-in-Some c =
+    answers_along c.loop-rest.invariant _ c.loop-rest-test.true c.sample_of-to.ensures c.in-Some.ensures
     (omega arith) c.answered-w.auto.file c.answered-w.ensures
 
-pub loop-used-smaller : goal.loop-used-smaller
-loop-used-smaller c =
-    sample_fewer c.loop-used.invariant _ c.loop-used-test.true (rw rest at c.sample_of-to.ensures) c.in-Reached.ensures.comes
+pub loop-rest-smaller : goal.loop-rest-smaller
+loop-rest-smaller c = simp rest (sample_fewer c.loop-rest.invariant _ c.loop-rest-test.true c.sample_of-to.ensures c.in-None.ensures.comes)
 
-pub loop-used-preserved : goal.loop-used-preserved
-loop-used-preserved c =
-    passes c.loop-used.invariant _ c.loop-used-test.true (rw rest at c.sample_of-to.ensures) c.in-Reached.ensures.comes
+pub loop-rest-preserved : goal.loop-rest-preserved
+loop-rest-preserved c = simp rest (passes_along c.loop-rest.invariant _ c.loop-rest-test.true c.sample_of-to.ensures c.in-None.ensures.comes)
 
 pub returns : goal.returns
-returns c = stops_at_end c.loop-used.invariant c.loop-used-test.false
+returns c = left_short c.loop-rest.invariant c.loop-rest-test.false

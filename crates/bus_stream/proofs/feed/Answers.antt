@@ -1,27 +1,20 @@
 -- At each turn what was run so far and the rest come to the whole.
 use Rattle.std.proofs.Common.{arith}
 use Rattle.counts.proofs.Parts.{rest}
-use Rattle.bus_stream.proofs.Turning.{reads_on, answers_on, stops, stops_at_end, stops_before}
+use Rattle.bus_stream.proofs.Turning.{some_left, none_left, left_none, reads_along, left_full, answers_along}
 use Rattle.bus_stream.proofs.feed.Goals as goal
+use Rattle.bus_stream.proofs.feed.Goals.{else-loop-stop-test, then-loop-stop-test+then-is_empty, then-loop-stop-test+else-is_empty+then-at}
 
-pub loop-used-preserved : goal.loop-used-preserved
-loop-used-preserved c =
-    let e = rw rest at c.scan_on-stop.ensures.0 in
-    let m = rw rest at c.scan_on-stop.ensures.1 in
-    let r = reads_on c.loop-used.invariant e m in
-    answers_on c.loop-used.invariant e m (omega (arith, r.within, c.if-used-part.false)) (omega (arith, c.if-at.false))
-    c.answered-w.auto.file c.answered-w.ensures
+pub loop-stop-preserved : goal.loop-stop-preserved
+loop-stop-preserved c =
+    simp rest
+    (answers_along c.loop-stop.invariant c.scan_on-stop.ensures.0 c.scan_on-stop.ensures.1 (some_left (simp rest at c.if-is_empty.ensures)) (omega (arith, c.if-at.false)) c.answered-w.auto.file c.answered-w.ensures)
 
-pub returns-after-loop-used : goal.returns-after-loop-used
-returns-after-loop-used c = stops_at_end c.loop-used.invariant c.loop-used-test.false
-
-pub returns-then-used-part : goal.returns-then-used-part
-returns-then-used-part c =
-    stops_at_end (reads_on c.loop-used.invariant (rw rest at c.scan_on-stop.ensures.0) (rw rest at c.scan_on-stop.ensures.1)) (omega arith)
-
-pub returns-then-at : goal.returns-then-at
-returns-then-at c =
-    let e = rw rest at c.scan_on-stop.ensures.0 in
-    let m = rw rest at c.scan_on-stop.ensures.1 in
-    let r = reads_on c.loop-used.invariant e m in
-    stops r (stops_before c.loop-used.invariant e m (omega (arith, r.within, c.if-used-part.false)) (omega (arith, c.if-at.true)))
+pub returns : goal.returns
+returns c = elim c.loop-stop-test.branch [
+  | else-loop-stop-test w ↦ rw (w.session-is, w.rest-is) (left_none c.loop-stop.invariant (none_left w.loop-stop-test.ensures))
+  | then-loop-stop-test+then-is_empty w ↦
+      rw (w.session-is, w.rest-is) (simp rest (left_none (reads_along c.loop-stop.invariant w.scan_on-stop.ensures.0 w.scan_on-stop.ensures.1) (none_left (simp rest at w.if-is_empty.ensures))))
+  | then-loop-stop-test+else-is_empty+then-at w ↦
+      rw (w.session-is, w.rest-is) (simp rest (left_full c.loop-stop.invariant w.scan_on-stop.ensures.0 w.scan_on-stop.ensures.1 (some_left (simp rest at w.if-is_empty.ensures)) (omega (arith, w.if-at.true))))
+]

@@ -1,10 +1,10 @@
 -- What was run so far and the rest come to the whole.
-use Rattle.std.proofs.Common.{◌-◌, length}
-use Rattle.bus_stream.proofs.Turning.{Runs}
+use Rattle.std.proofs.Common.{length}
+use Rattle.bus_stream.proofs.Turning.{Along}
 use Rattle.bus_stream.proofs.feed.Given as goal
 
-abbrev pub invariant-loop-used : goal.invariant-loop-used
-invariant-loop-used l = Runs l.part l.fn.file l.fn.out l.fn.first l.out l.file l.session l.used l.at
+abbrev pub invariant-loop-stop : goal.invariant-loop-stop
+invariant-loop-stop l = Along l.part l.fn.file l.fn.out l.fn.first l.out l.file l.session l.rest l.at
 
-abbrev pub decreases-loop-used : goal.decreases-loop-used
-decreases-loop-used l = length l.part - l.used
+abbrev pub decreases-loop-stop : goal.decreases-loop-stop
+decreases-loop-stop l = length l.rest

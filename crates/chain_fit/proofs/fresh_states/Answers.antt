@@ -1,10 +1,14 @@
--- One slot more that is fresh.
-use Rattle.std.proofs.Common.{arith}
-use Rattle.counts.proofs.Loops.{with_turn}
-use Rattle.chain_fit.specs.Fresh.{fresh_slot}
+-- Each slot is fresh.
+use Rattle.std.proofs.Common.{arith, rules}
+use Rattle.std.proofs.lemmas.List.{get_or-replicate}
+use Rattle.pack_read.specs.Packs.{no_pack}
+use Rattle.drive_record.specs.State.{blank_state}
+use Rattle.chain_record.proofs.Made.{made}
+use Rattle.chain_fit.specs.Fresh.{fresh_slot, blank_states}
 use Rattle.chain_fit.proofs.fresh_states.Goals as goal
 
-pub loop-i-preserved : goal.loop-i-preserved
-loop-i-preserved c =
-    let inv = c.loop-i.invariant in
-    (inv.0, inv.1, with_turn fresh_slot c.args.packs c.blank_states-out.result c.loop-i.i _ _ (omega arith) (omega arith) inv.2 c.fresh_slot-t.ensures)
+pub returns : goal.returns
+returns c =
+    let r = c.from_fn.ensures.items in
+    made fresh_slot c.args.packs blank_states c.from_fn.result no_pack blank_state (omega (arith, r.long)) (omega (arith, r.long))
+    (λ i h. let s = r.at i blank_state (omega (arith, r.long)) in let b = get_or-replicate 7 i blank_state blank_state (omega (arith, r.long)) in search rules)

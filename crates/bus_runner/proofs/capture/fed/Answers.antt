@@ -1,29 +1,17 @@
 -- `capture::fed`: a turn over the rest of the part carries session and file on; where no sample is left they are the part's.
-use Rattle.std.proofs.Common.{arith}
+use Rattle.std.proofs.Common.{arith, length-drop}
 use Rattle.counts.proofs.Parts.{rest}
-use Rattle.bus_capture.proofs.Threading.{threads_none, turn_threads, turn_fewer, threads_end}
+use Rattle.bus_capture.proofs.Threading.{along_none, turn_along, along_end}
 use Rattle.bus_runner.proofs.capture.fed.Goals as goal
 
-pub loop-i-init : goal.loop-i-init
-loop-i-init g c = record { in_range = omega arith; threads = threads_none _ _ _ }
+pub loop-rest-init : goal.loop-rest-init
+loop-rest-init g c = along_none _ _ _
 
-pub overflow_add-i : goal.overflow_add-i
-overflow_add-i g c =
-    let f = rw rest at c.feed-t.ensures in
-    omega (arith, (turn_fewer c.args.part.now c.loop-i.i f c.loop-i-test.true).0)
+pub loop-rest-smaller : goal.loop-rest-smaller
+loop-rest-smaller g c = simp (rest, length-drop) (omega (arith, c.feed-t.ensures.goes c.loop-rest-test.true))
 
-pub loop-i-smaller : goal.loop-i-smaller
-loop-i-smaller g c =
-    let f = rw rest at c.feed-t.ensures in
-    (turn_fewer c.args.part.now c.loop-i.i f c.loop-i-test.true).1
-
-pub loop-i-preserved : goal.loop-i-preserved
-loop-i-preserved g c =
-    let f = rw rest at c.feed-t.ensures in
-    record {
-      in_range = (turn_fewer c.args.part.now c.loop-i.i f c.loop-i-test.true).0;
-      threads = turn_threads c.loop-i.invariant.threads f;
-    }
+pub loop-rest-preserved : goal.loop-rest-preserved
+loop-rest-preserved g c = simp rest (turn_along c.loop-rest.invariant c.feed-t.ensures)
 
 pub returns : goal.returns
-returns g c = λ e. threads_end c.loop-i.invariant.threads c.loop-i-test.false
+returns g c = along_end c.loop-rest.invariant c.loop-rest-test.false

@@ -1,13 +1,21 @@
--- `stream::fed`: a turn over the rest of the block carries session and file on.
-use Rattle.std.proofs.Common.{◌≡◌, ◌-◌, length, take, drop, arith, length-drop, length-take-le}
-use Rattle.bus_stream.proofs.Cut.{turn_threads}
+-- `stream::fed`: a turn over the rest of the part carries session and file on.
+use Rattle.std.proofs.Common.{◌<◌, length, arith, length-drop}
+use Rattle.counts.proofs.Parts.{rest}
+use Rattle.bus_stream.proofs.Turning.{none_left, some_left}
+use Rattle.bus_stream.proofs.Cut.{threads_none, turn_threads, threads_end}
 use Rattle.bus_runner.proofs.stream.fed.Goals as goal
 
-pub loop-i-preserved : goal.loop-i-preserved
-loop-i-preserved g c =
-    let n = c.args.n in
-    let i = c.loop-i.i in
-    let block = c.args.block.now in
-    let l : length (take (n - i) (drop i block)) ≡ n - i = length-take-le (n - i) (drop i block) (omega (arith, length-drop i block)) in
-    let t = turn_threads block _ i n _ c.loop-i.invariant.in_range c.requires c.loop-i.invariant.session c.loop-i.invariant.file c.feed-t.ensures in
-    record { in_range = omega (arith, c.feed-t.ensures.used); session = t.0; file = t.1 }
+pub loop-rest-init : goal.loop-rest-init
+loop-rest-init g c = threads_none _ _ _
+
+pub loop-rest-preserved : goal.loop-rest-preserved
+loop-rest-preserved g c = simp rest (turn_threads c.loop-rest.invariant c.feed-t.ensures)
+
+pub loop-rest-smaller : goal.loop-rest-smaller
+loop-rest-smaller g c =
+    let h : 0 < length c.loop-rest.rest.now = some_left c.loop-rest-test.ensures in
+    let f = c.feed-t.ensures in
+    simp (rest, length-drop) (omega (arith, f.goes h, f.used))
+
+pub returns : goal.returns
+returns g c = threads_end c.loop-rest.invariant (none_left c.loop-rest-test.ensures)

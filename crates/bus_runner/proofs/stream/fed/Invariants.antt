@@ -1,14 +1,10 @@
--- `stream::fed`: session and file are those of the block's first i bytes, and each turn uses a byte or more.
-use Rattle.std.proofs.Common.{◌≡◌, ◌-◌, ◌≤◌, [], take}
-use Rattle.bus_stream.specs.Stream.{stream_of, fed_bytes}
+-- `stream::fed`: session and file are those of the part's bytes up to those that are left, and each turn uses a byte or more.
+use Rattle.std.proofs.Common.{length}
+use Rattle.bus_stream.proofs.Cut.{Threads}
 use Rattle.bus_runner.proofs.stream.fed.Given as goal
 
-abbrev pub invariant-loop-i : goal.invariant-loop-i
-invariant-loop-i g l = record {
-  in_range : l.i ≤ l.n;
-  session : l.r.session ≡ (fed_bytes (stream_of l.fn.first.session l.fn.file []) (take l.i l.block)).session;
-  file : l.file ≡ (fed_bytes (stream_of l.fn.first.session l.fn.file []) (take l.i l.block)).file;
-}
+abbrev pub invariant-loop-rest : goal.invariant-loop-rest
+invariant-loop-rest g l = Threads l.part l.fn.file l.fn.first.session l.rest l.r.session l.file
 
-abbrev pub decreases-loop-i : goal.decreases-loop-i
-decreases-loop-i g l = l.n - l.i
+abbrev pub decreases-loop-rest : goal.decreases-loop-rest
+decreases-loop-rest g l = length l.rest

@@ -1,7 +1,7 @@
 -- The four fields stand one behind the other, where there is room for the longest line.
 use Rattle.std.proofs.Common.{◌≤◌, length, arith}
 use Rattle.std.proofs.Math.ListN.{length-append}
-use Rattle.bus_text.specs.AnswerLine.{answer_line, longest_line}
+use Rattle.bus_text.specs.AnswerLine.{bytes_of, longest_line}
 use Rattle.bus_text.proofs.Digits.{answer_fits}
 use Rattle.bus_text.proofs.Storing.{put_then, refused, stored}
 use Rattle.bus_text.proofs.put.put_answer.Goals as goal
@@ -10,7 +10,7 @@ use Rattle.bus_text.proofs.put.put_answer.Goals.{Start}
 pub returns-then-out-lt-LONGEST : goal.returns-then-out-lt-LONGEST
 returns-then-out-lt-LONGEST c = refused _ _ c.if-out-lt-LONGEST.true
 
-room : (c : Start) → length (answer_line c.args.count c.args.answer c.args.value c.args.sum) ≤ longest_line
+room : (c : Start) → length (bytes_of c.args.line) ≤ longest_line
 room c = answer_fits _ _ _ _ (omega arith) (omega arith) (omega arith) (omega arith)
 
 pub put_field-a-requires : goal.put_field-a-requires

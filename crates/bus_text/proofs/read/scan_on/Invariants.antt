@@ -1,11 +1,8 @@
 -- The stop seen from the place reached is the one to be found.
-use Rattle.std.proofs.Common.{length, ◌-◌, ◌≡◌, ◌≤◌}
+use Rattle.std.proofs.Common.{◌≡◌}
 use Rattle.bus_text.specs.TextLines.{line_stop}
 use Rattle.bus_text.proofs.Stopping.{stop_from}
 use Rattle.bus_text.proofs.read.scan_on.Given as goal
 
 abbrev pub invariant-loop-at : goal.invariant-loop-at
-invariant-loop-at l = (l.at ≤ length l.part) × (stop_from l.part l.at l.s ≡ line_stop l.part l.fn.scan)
-
-abbrev pub decreases-loop-at : goal.decreases-loop-at
-decreases-loop-at l = length l.part - l.at
+invariant-loop-at l = stop_from l.part l.at l.s ≡ line_stop l.part l.fn.scan

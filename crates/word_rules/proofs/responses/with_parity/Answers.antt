@@ -1,5 +1,5 @@
 -- Counting the ones of sixteen bits looks at sixteen.
-use Rattle.std.proofs.Common.{◌^◌, arith}
+use Rattle.std.proofs.Common.{arith}
 use Rattle.std.proofs.Math.Nat.{mod-eq_of_lt}
 use Rattle.counts.proofs.Ones.{ones_in_lem}
 use Rattle.word_table.specs.Word.{with_parity}

@@ -1,30 +1,35 @@
--- The first row that fits is not among those passed.
-use Rattle.std.proofs.Common.{◌≡◌, ℕ, ◌<◌, [], ◌∷◌, get_or, sym, ap, ◌∙◌, arith}
-use Rattle.std.proofs.Math.ListN.{get_or-append}
-use Rattle.counts.proofs.First.{first_hit, first_miss, first_most}
+-- No row that was passed fits.
+use Rattle.std.proofs.Common.{◌≡◌, ℕ, ◌+◌, ◌<◌, Bool, false, get_or, sym, ap, ◌∙◌, arith, inl, inr}
+use Rattle.std.proofs.Math.Nat.{eq-or-lt_of_le}
+use Rattle.std.proofs.lemmas.List.{get_or_default}
+use Rattle.std.proofs.lemmas.List.Sums.{position_or_len_is}
 use Rattle.word_table.specs.declared.table.Row.{Row}
-use Rattle.word_table.specs.Table.{commands, invalid_row, rows, fits_b, row_of}
+use Rattle.word_table.specs.declared.table.Needs.TheVariants.{Free}
+use Rattle.word_table.specs.declared.table.Asks.TheVariants.{Nothing}
+use Rattle.word_table.specs.declared.table.Command.TheVariants.{Seek}
+use Rattle.word_table.specs.Table.{row, commands, fits_b, row_of}
 use Rattle.word_table.proofs.table.row_of.Goals as goal
 
-command : (i : ℕ) (z : Row) → i < 12 → get_or commands i z ≡ get_or rows i z
-command i z h = sym (get_or-append commands (invalid_row ∷ []) z i h)
+passed_more : (test : Row → Bool) (i : ℕ) (e : Row) → i < 12 → ((k : ℕ) (d : Row) → k < i → test (get_or commands k d) ≡ false) → test (get_or commands i e) ≡ false
+    → (k : ℕ) (d : Row) → k < i + 1 → test (get_or commands k d) ≡ false
+passed_more test i e within passed missed k d h =
+    elim (eq-or-lt_of_le {n = k} {m = i} (omega arith)) [
+      | inl same ↦ ap (λ n. test (get_or commands n d)) same ∙ ap test (get_or_default commands i d e within) ∙ missed
+      | inr less ↦ passed k d less
+    ]
 
 pub loop-i-preserved : goal.loop-i-preserved
-loop-i-preserved c =
-    let i = c.loop-i.i in
-    let test = fits_b c.args.code c.args.modifier in
-    let missed = ap test (command i _ (omega arith)) ∙ sym c.row_fits.ensures ∙ c.if-row_fits.false in
-    (omega arith, omega (arith, first_miss test commands i _ c.loop-i.invariant.1 (omega arith) missed))
+loop-i-preserved c = record {
+  number = c.loop-i.invariant.number;
+  passed = passed_more (fits_b c.args.code c.args.modifier) c.loop-i.i _ c.loop-i-test.true c.loop-i.invariant.passed (sym c.fits.ensures ∙ c.if-fits.false);
+}
 
 pub returns-after-loop-i : goal.returns-after-loop-i
 unfolding row_of
 returns-after-loop-i c =
-    omega (arith, c.loop-i.invariant.0, c.loop-i.invariant.1, first_most (fits_b c.args.code c.args.modifier) commands)
+    let none = position_or_len_is (fits_b c.args.code c.args.modifier) commands 12 (row 0 0 0 Free Nothing Seek) (omega arith) (λ k h. c.loop-i.invariant.passed k _ (omega arith)) (λ h. absurd (omega arith)) in
+    c.loop-i.invariant.number ∙ sym none
 
-pub returns-then-row_fits : goal.returns-then-row_fits
+pub returns-then-fits : goal.returns-then-fits
 unfolding row_of
-returns-then-row_fits c =
-    let i = c.loop-i.i in
-    let test = fits_b c.args.code c.args.modifier in
-    let hit = ap test (command i _ (omega arith)) ∙ sym c.row_fits.ensures ∙ c.if-row_fits.true in
-    sym (first_hit test commands i _ c.loop-i.invariant.1 (omega arith) hit)
+returns-then-fits c = sym (position_or_len_is (fits_b c.args.code c.args.modifier) commands c.loop-i.i _ (omega arith) (λ k h. c.loop-i.invariant.passed k _ h) (λ h. sym c.fits.ensures ∙ c.if-fits.true))
