@@ -1,10 +1,9 @@
 // What a run leaves to the next, whatever is read: a chain, what is reached of the input, and how many events were answered.
 #![tactic(auto)]
 
-ghost use Rattle.std.specs.Prelude.{◌≡◌, ◌+◌, ◌≤◌};
-ghost use Rattle.bus_text.specs.AnswerLine.{longest_line};
+ghost use Rattle.std.specs.Prelude.{◌≡◌};
 ghost use Rattle.bus_reply.specs.Reply.{line_count, line_answer};
-ghost use Rattle.bus_output.specs.Output.{block_length, Behind};
+ghost use Rattle.bus_output.specs.Output.{room_for, Stored};
 ghost use Rattle.bus_session.specs.Session.{session_of};
 
 use bus_output::BLOCK;
@@ -38,7 +37,7 @@ pub struct Turn<P> {
 }
 
 // Puts an event's reply behind the output that waits, so many answered before it, and goes on at what is reached.
-// Stays: no plainer: feed tests for the room, close has all of it, and bus_output::put takes any place, so no type holds it.
+// Where the longest line might not fit nothing is stored, and the place stays.
 pub fn answered<P>(
     out: &mut [u8; BLOCK],
     at: usize,
@@ -46,9 +45,8 @@ pub fn answered<P>(
     reply: Reply,
     reached: P,
 ) -> Waiting<P>
-    requires { at + longest_line ≤ block_length }
     ensures session { result.session ≡ session_of reply.chain reached (line_count count) }
-    ensures output { Behind out.old at (line_answer (line_count count) reply) out.new result.at }
+    ensures output { Stored out.old at (room_for at (line_answer (line_count count) reply)) out.new result.at }
 {
     let lines = count.wrapping_add(1);
     // Stays: no plainer: line_answer and event_reply name the three singly, so a struct of them would be taken apart in each.

@@ -1,5 +1,6 @@
 -- The answer's line stands behind the output that waits.
 use Rattle.std.proofs.Common.{ap}
+use Rattle.bus_output.proofs.Output.{put_behind}
 use Rattle.bus_capture.specs.Stream.{answered_of}
 use Rattle.bus_capture.proofs.answered.Goals as goal
 
@@ -7,7 +8,7 @@ pub returns : goal.returns
 unfolding answered_of
 returns c =
     let a = c.answered.ensures in
-    let p = a.output in
+    let p = put_behind a.output c.requires in
     let e = c.to_event-reply.ensures in
     record {
       is = simp (a.session, p.waits, e.0, e.1);
