@@ -37,7 +37,8 @@ fn pass_slot(p: Pack, s: State, us: Micros) -> State
     time::pass(s, us).state
 }
 
-// Time passes on every drive.
+// Time passes on every drive. Not inlined: the compiler would take the whole record apart for it, at the other decisions too.
+#[inline(never)]
 fn passed(c: Chain, us: Micros) -> Chain
     ensures { result ≡ with_states c (map_with (pass_slot us) c.packs c.states) }
 {
