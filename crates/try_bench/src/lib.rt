@@ -11,10 +11,9 @@ use counts::{Head, LAST_SLOT, Micros, Position};
 use drives::Drives;
 use event::Event;
 use pack_profile::Profile;
-use std::alloc::{AllocError, Global};
 
 // Room for the longest chain's file, and more.
-const ROOM: usize = 131_072;
+pub const ROOM: usize = 131_072;
 
 // What each line adds to the sum.
 pub const ACKNOWLEDGE: u8 = 4;
@@ -32,37 +31,35 @@ pub struct Told {
     pub sum: u8,
 }
 
-// A chain, the room of its file, and how much of the room is lent to it.
-#[derive(Drop)]
+// A chain, and how much of the room is lent to it as its file.
+// Stays: tried with the room in it. As a vector it can't be copied and may not be had, and as an array each move is another room on the stack.
+#[derive(Clone, Copy)]
 pub struct Bench {
     pub chain: Chain,
     // Stays: no plainer: a script may lend more than the room has, so lent is no slice's length.
     pub lent: usize,
-    room: Vec<u8>,
 }
 
 impl Bench {
     // No drive.
-    pub fn new(alloc: Global) -> Result<Bench, AllocError> {
-        Ok(Bench {
+    pub fn new() -> Bench {
+        Bench {
             chain: chain_fit::fit(&[]).chain,
             lent: 0,
-            room: vec![in alloc; 0u8; ROOM]?,
-        })
+        }
     }
 
     // One of the chains that are here, fresh, its file laid anew.
-    pub fn fit(&mut self, drives: Drives) {
-        let room = self.room.as_mut_slice();
+    pub fn fit(&mut self, room: &mut [u8; ROOM], drives: Drives) {
         self.lent = lay_all(room, drives);
-        self.chain = chain_fit::fit(&room[..self.lent.min(room.len())]).chain;
+        let end = self.lent.min(ROOM);
+        self.chain = chain_fit::fit(&room[..end]).chain;
     }
 
     // An event by its three numbers.
-    pub fn meet(&mut self, kind: u32, a: u32, b: u32) -> Told {
-        let room = self.room.as_mut_slice();
-        let lent = self.lent.min(room.len());
-        let reply = bus_reply::to_event(self.chain, &mut room[..lent], kind, a, b);
+    pub fn meet(&mut self, room: &mut [u8; ROOM], kind: u32, a: u32, b: u32) -> Told {
+        let end = self.lent.min(ROOM);
+        let reply = bus_reply::to_event(self.chain, &mut room[..end], kind, a, b);
         self.chain = reply.chain;
         // Stays: no plainer: as in bus_session, a struct of the three in Reply would be taken apart wherever they are named.
         Told {
@@ -72,14 +69,14 @@ impl Bench {
         }
     }
 
-    pub fn happen(&mut self, event: Event) -> Told {
+    pub fn happen(&mut self, room: &mut [u8; ROOM], event: Event) -> Told {
         let (kind, a, b) = numbers(event);
-        self.meet(kind, a, b)
+        self.meet(room, kind, a, b)
     }
 
     // The byte at a place of the room.
-    pub fn byte(&self, place: u32) -> Option<u8> {
-        self.room.get(place as usize).copied()
+    pub fn byte(room: &[u8; ROOM], place: u32) -> Option<u8> {
+        room.get(place as usize).copied()
     }
 }
 

@@ -1,15 +1,14 @@
 // Events on the cable, one by one or a word's together.
 use crate::tally::Tally;
-use crate::{ACKNOWLEDGE, ATTENTION, Bench, STATUS, Told, numbers};
+use crate::{ACKNOWLEDGE, ATTENTION, Bench, ROOM, STATUS, Told, numbers};
 use chain_decide::shown;
 use event::Event;
-use std::alloc::{AllocError, Global};
 
 // A word's bits, to the drive or from it.
 const BITS: u32 = 17;
 
 // told: what the last event came to.
-#[derive(Drop)]
+#[derive(Clone, Copy)]
 pub struct Play {
     pub bench: Bench,
     pub told: Told,
@@ -25,28 +24,28 @@ enum Way {
 
 impl Play {
     // Nothing played yet, and no drive.
-    pub fn new(alloc: Global) -> Result<Play, AllocError> {
-        Ok(Play {
-            bench: Bench::new(alloc)?,
+    pub fn new() -> Play {
+        Play {
+            bench: Bench::new(),
             told: Told::default(),
             tally: Tally::none(),
-        })
+        }
     }
 
     // An event by its three numbers.
-    pub fn event(&mut self, kind: u32, a: u32, b: u32) {
-        self.told = self.bench.meet(kind, a, b);
+    pub fn event(&mut self, room: &mut [u8; ROOM], kind: u32, a: u32, b: u32) {
+        self.told = self.bench.meet(room, kind, a, b);
         self.tally.count(kind, self.told.answer);
     }
 
-    fn happen(&mut self, event: Event) {
+    fn happen(&mut self, room: &mut [u8; ROOM], event: Event) {
         let (kind, a, b) = numbers(event);
-        self.event(kind, a, b);
+        self.event(room, kind, a, b);
     }
 
     // Whether an event within a word is taken and leaves these lines.
-    fn leaves(&mut self, event: Event, sum: u8) -> bool {
-        self.happen(event);
+    fn leaves(&mut self, room: &mut [u8; ROOM], event: Event, sum: u8) -> bool {
+        self.happen(room, event);
         let taken = Told {
             answer: 0,
             value: 0,
@@ -56,18 +55,22 @@ impl Play {
     }
 
     // A bit taken: the data line, then request's rise, which raises acknowledge.
-    fn takes(&mut self, bit: u8, before: u8, open: u8) -> bool {
-        let set = self.leaves(Event::Data(bit), before);
-        self.leaves(Event::Request(1), open | ACKNOWLEDGE) & set
+    fn takes(&mut self, room: &mut [u8; ROOM], bit: u8, before: u8, open: u8) -> bool {
+        let set = self.leaves(room, Event::Data(bit), before);
+        self.leaves(room, Event::Request(1), open | ACKNOWLEDGE) & set
     }
 
     // A response bit put out: request's rise raises acknowledge, and data shows the bit.
-    fn puts_out(&mut self, bit: u8, open: u8) -> bool {
-        self.leaves(Event::Request(1), open | ACKNOWLEDGE | bit % 2 * STATUS)
+    fn puts_out(&mut self, room: &mut [u8; ROOM], bit: u8, open: u8) -> bool {
+        self.leaves(
+            room,
+            Event::Request(1),
+            open | ACKNOWLEDGE | bit % 2 * STATUS,
+        )
     }
 
     // The first bits of seventeen, the highest first. Whether every event but the last fall came as it must.
-    fn bits(&mut self, way: Way, word: u32, count: u32) -> bool {
+    fn bits(&mut self, room: &mut [u8; ROOM], way: Way, word: u32, count: u32) -> bool {
         let mut good = true;
         let mut before = shown::line_sum(self.bench.chain);
         let open = open_sum(before);
@@ -75,24 +78,24 @@ impl Play {
         for i in 0..count {
             let bit = (word >> (BITS - 1 - i) & 1) as u8;
             good &= match way {
-                Way::Taking => self.takes(bit, before, open),
-                Way::Responding => self.puts_out(bit, open),
+                Way::Taking => self.takes(room, bit, before, open),
+                Way::Responding => self.puts_out(room, bit, open),
             };
             let last = i + 1 == count;
-            good &= self.leaves(Event::Request(0), open) | last;
+            good &= self.leaves(room, Event::Request(0), open) | last;
             before = open;
         }
         good
     }
 
     // The first bits of a word of seventeen; the last fall's answer is left to the script.
-    pub fn send(&mut self, word: u32, count: u32) -> bool {
-        self.bits(Way::Taking, word, count)
+    pub fn send(&mut self, room: &mut [u8; ROOM], word: u32, count: u32) -> bool {
+        self.bits(room, Way::Taking, word, count)
     }
 
     // A response of seventeen bits, which must be this one.
-    pub fn take(&mut self, word: u32) -> bool {
-        self.bits(Way::Responding, word, BITS)
+    pub fn take(&mut self, room: &mut [u8; ROOM], word: u32) -> bool {
+        self.bits(room, Way::Responding, word, BITS)
     }
 }
 

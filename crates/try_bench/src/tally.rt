@@ -7,8 +7,8 @@ const ANSWERS: usize = 26;
 
 #[derive(Clone, Copy)]
 pub struct Tally {
-    kinds: [u32; KINDS],
-    answers: [u32; ANSWERS],
+    pub kinds: [u32; KINDS],
+    pub answers: [u32; ANSWERS],
 }
 
 impl Tally {

@@ -12,17 +12,16 @@ use drive_record::{Body, Latched, State};
 use event::Event;
 use lines::Lines;
 use random::{Random, below};
-use std::alloc::{AllocError, Global};
 use std::{io, mem};
 use totals::Totals;
 use try_bench::drives::Drives;
 use try_bench::plain::Answered;
-use try_bench::{Bench, plain};
+use try_bench::{Bench, ROOM, plain};
 use ways::Sent;
 
 const WORDS: u32 = 3000;
 
-#[derive(Drop)]
+#[derive(Clone, Copy)]
 struct Run {
     bench: Bench,
     random: Random,
@@ -30,9 +29,9 @@ struct Run {
 }
 
 // As long as the longest time that a drive may be busy.
-fn long_wait(bench: &mut Bench) {
+fn long_wait(bench: &mut Bench, room: &mut [u8; ROOM]) {
     for _ in 0..460 {
-        bench.happen(Event::Pass(Micros(65_535)));
+        bench.happen(room, Event::Pass(Micros(65_535)));
     }
 }
 
@@ -50,12 +49,12 @@ fn some_event(r: u64) -> Event {
 }
 
 // One time in sixteen, a wait that ends whatever a drive is busy with.
-fn between(bench: &mut Bench, r: u64) {
+fn between(bench: &mut Bench, room: &mut [u8; ROOM], r: u64) {
     if r % 16 == 9 {
-        long_wait(bench);
+        long_wait(bench, room);
         return;
     }
-    bench.happen(some_event(r));
+    bench.happen(room, some_event(r));
 }
 
 // Words of every code: those that do something more often than not, and any at all.
@@ -127,23 +126,23 @@ fn some_slot(r: u64) -> u8 {
 }
 
 impl Run {
-    fn new(alloc: Global) -> Result<Run, AllocError> {
-        let mut bench = Bench::new(alloc)?;
-        bench.fit(Drives::Mixed);
-        Ok(Run {
-            bench,
+    fn new(room: &mut [u8; ROOM]) -> Run {
+        let mut run = Run {
+            bench: Bench::new(),
             random: Random::new(1984),
             totals: Totals::default(),
-        })
+        };
+        run.bench.fit(room, Drives::Mixed);
+        run
     }
 
     // Sends a word by its bits, and at once to the record as it was before.
-    fn both(&mut self, word: u32, seed: u64) {
+    fn both(&mut self, room: &mut [u8; ROOM], word: u32, seed: u64) {
         let before = self.bench.chain;
         let bit = latches(before, word);
-        let slow = ways::by_bits(&mut self.bench, word, seed);
+        let slow = ways::by_bits(&mut self.bench, room, word, seed);
         let left = mem::replace(&mut self.bench.chain, before);
-        let quick = ways::at_once(&mut self.bench, word, seed);
+        let quick = ways::at_once(&mut self.bench, room, word, seed);
         self.bench.chain = left;
         let good = agree(left, slow, quick);
         let state = ways::selected(&before);
@@ -151,21 +150,22 @@ impl Run {
             .count(&state, bit, slow.response.is_some(), good);
     }
 
-    fn turn(&mut self) {
+    fn turn(&mut self, room: &mut [u8; ROOM]) {
         let a = self.random.draw();
         let b = self.random.draw();
         let c = self.random.draw();
         let d = self.random.draw();
-        between(&mut self.bench, a / 8);
-        self.bench.happen(Event::Select(some_slot(b / 8)));
-        self.both(seventeen(some_word(c / 8), d / 8), d);
+        between(&mut self.bench, room, a / 8);
+        self.bench.happen(room, Event::Select(some_slot(b / 8)));
+        self.both(room, seventeen(some_word(c / 8), d / 8), d);
     }
 }
 
 fn main(rt: HostRuntime) -> io::Result<()> {
-    let mut run = Run::new(rt.alloc())?;
+    let mut room = [0u8; ROOM];
+    let mut run = Run::new(&mut room);
     for _ in 0..WORDS {
-        run.turn();
+        run.turn(&mut room);
     }
     let totals = run.totals;
     println!(rt; "words {WORDS}, {totals}")

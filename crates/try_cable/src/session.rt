@@ -7,18 +7,17 @@
 use crate::step;
 use crate::step::{Named, Step};
 use chain_decide::shown;
-use std::alloc::{AllocError, Global};
 use std::io;
 use try_bench::drives::Drives;
 use try_bench::play::Play;
-use try_bench::{Told, plain};
+use try_bench::{Bench, ROOM, Told, plain};
 use try_script::{fields, words};
 
 // Stays: on every input the program does what it did, and a script may say this of a field or a byte that isn't there.
 const NOWHERE: u32 = u32::MAX;
 
 // here: the differences of this session.
-#[derive(Drop)]
+#[derive(Clone, Copy)]
 pub struct Run {
     play: Play,
     here: u32,
@@ -100,15 +99,20 @@ fn compared(rt: &impl Print, line: &[u8], held: Option<u32>, v: u32) -> io::Resu
 }
 
 // Plays a step. Whether it went as the line says.
-fn played(rt: &impl Print, play: &mut Play, line: &[u8]) -> io::Result<bool> {
+fn played(
+    rt: &impl Print,
+    play: &mut Play,
+    room: &mut [u8; ROOM],
+    line: &[u8],
+) -> io::Result<bool> {
     let Some(step) = step::read(line) else {
         return unread(rt, line);
     };
     let mut good = true;
     match step {
-        Step::Event(kind, a, b) => play.event(kind, a, b),
-        Step::Send(word, count) => good = play.send(word, count),
-        Step::Take(word) => good = play.take(word),
+        Step::Event(kind, a, b) => play.event(room, kind, a, b),
+        Step::Send(word, count) => good = play.send(room, word, count),
+        Step::Take(word) => good = play.take(room, word),
         Step::Plain(word) => return plainly(rt, play, line, word),
         Step::Set(to, v) => return set(rt, play, line, to, v),
         Step::Is(at, v) => {
@@ -116,7 +120,7 @@ fn played(rt: &impl Print, play: &mut Play, line: &[u8]) -> io::Result<bool> {
             return compared(rt, line, held, v);
         }
         Step::At(place, v) => {
-            let held = play.bench.byte(place).map(u32::from);
+            let held = Bench::byte(room, place).map(u32::from);
             return compared(rt, line, held, v);
         }
         Step::Lend(lent) => {
@@ -124,7 +128,7 @@ fn played(rt: &impl Print, play: &mut Play, line: &[u8]) -> io::Result<bool> {
             return Ok(true);
         }
         Step::Fit(drives) => {
-            play.bench.fit(drives);
+            play.bench.fit(room, drives);
             return Ok(true);
         }
     }
@@ -133,29 +137,29 @@ fn played(rt: &impl Print, play: &mut Play, line: &[u8]) -> io::Result<bool> {
 
 impl Run {
     // No session yet, and no drive.
-    pub fn new(alloc: Global) -> Result<Run, AllocError> {
-        Ok(Run {
-            play: Play::new(alloc)?,
+    pub fn new() -> Run {
+        Run {
+            play: Play::new(),
             here: 0,
             differences: 0,
             sessions: 0,
             lines: 0,
-        })
+        }
     }
 
-    pub fn line(&mut self, rt: &impl Print, line: &[u8]) -> io::Result<()> {
+    pub fn line(&mut self, rt: &impl Print, room: &mut [u8; ROOM], line: &[u8]) -> io::Result<()> {
         match line.first() {
             None | Some(b'-') => Ok(()),
-            Some(b'#') => self.titled(rt, line),
-            Some(_) => self.counted(rt, line),
+            Some(b'#') => self.titled(rt, room, line),
+            Some(_) => self.counted(rt, room, line),
         }
     }
 
     // A session has no chain until the script fits one.
-    fn titled(&mut self, rt: &impl Print, line: &[u8]) -> io::Result<()> {
+    fn titled(&mut self, rt: &impl Print, room: &mut [u8; ROOM], line: &[u8]) -> io::Result<()> {
         self.close(rt)?;
         rt.write_all(line)?;
-        self.play.bench.fit(Drives::Empty);
+        self.play.bench.fit(room, Drives::Empty);
         self.here = 0;
         self.sessions = self.sessions.wrapping_add(1);
         Ok(())
@@ -173,8 +177,8 @@ impl Run {
     }
 
     // A line that plays something.
-    fn counted(&mut self, rt: &impl Print, line: &[u8]) -> io::Result<()> {
-        let different = u32::from(!played(rt, &mut self.play, line)?);
+    fn counted(&mut self, rt: &impl Print, room: &mut [u8; ROOM], line: &[u8]) -> io::Result<()> {
+        let different = u32::from(!played(rt, &mut self.play, room, line)?);
         self.here = self.here.wrapping_add(different);
         self.differences = self.differences.wrapping_add(different);
         self.lines = self.lines.wrapping_add(1);
