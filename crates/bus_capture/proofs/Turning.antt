@@ -16,7 +16,7 @@ use Rattle.bus_capture.specs.Stream.{Stream, stream_of, ran_of, left_of}
 use Rattle.bus_capture.specs.Parts.{part_events}
 use Rattle.bus_capture.specs.Turns.{stop_of}
 use Rattle.bus_capture.specs.Kept.{Answers, Fed}
-use Rattle.bus_capture.proofs.Running.{Goes, goes_event, stops_none, stops_full}
+use Rattle.bus_capture.proofs.Running.{Goes, goes_none, goes_event, stops_none, stops_full}
 use Rattle.bus_capture.proofs.Stopping.{end_stops, sample_passed, event_fits, full_stops}
 
 -- what was run so far and the rest of the part come to the whole, and the output's end is as it was
@@ -31,6 +31,19 @@ pub record Runs (part file₀ out₀ : List ℕ) (s₀ : Session Sample) (out fi
   pub last : last_of s.at (samples_of (drop used part)) ≡ last_of s₀.at (samples_of part)
   -- a line at most for each event that is no more to come
   pub spent : at + longest_line * length (to_come s.at part used) ≤ longest_line * length (part_events s₀ part)
+
+pub begins : (part file out : List ℕ) (s : Session Sample) → Runs part file out s out file s 0 0
+begins part file out s = record {
+  within = omega arith;
+  waits = omega arith;
+  holds = omega arith;
+  whole = refl;
+  rest = refl;
+  goes = goes_none (stream_of s file []) (part_events s part);
+  stop = refl;
+  last = refl;
+  spent = omega arith;
+}
 
 -- the session once a sample is reached
 abbrev pub reaching : Session Sample → Sample → Session Sample

@@ -14,7 +14,7 @@ use Rattle.bus_session.specs.Session.{session_of}
 use Rattle.bus_stream.specs.Stream.{stream_of}
 use Rattle.bus_stream.specs.Parts.{fitting_bytes}
 use Rattle.bus_stream.specs.Kept.{Answers, Fed}
-use Rattle.bus_stream.proofs.Running.{Goes, over_line, over_newline, stops_full, stops_used, run_ends, first_used}
+use Rattle.bus_stream.proofs.Running.{Goes, goes_none, over_line, over_newline, stops_full, stops_used, run_ends, first_used}
 
 -- what was run so far and the rest of the part come to the whole, and the output's end is as it was
 pub record Runs (part file₀ out₀ : List ℕ) (s₀ : Session Scan) (out file : List ℕ) (s : Session Scan) (used at : ℕ) : Type 0 where
@@ -24,6 +24,10 @@ pub record Runs (part file₀ out₀ : List ℕ) (s₀ : Session Scan) (out file
   pub whole : length file ≡ length file₀
   pub rest : drop at out ≡ drop at out₀
   pub goes : Goes (stream_of s₀ file₀ []) part used (stream_of s file (take at out)) (drop used part)
+
+pub begins : (part file out : List ℕ) (s : Session Scan) → Runs part file out s out file s 0 0
+begins part file out s =
+    record { within = omega arith; waits = omega arith; holds = omega arith; whole = refl; rest = refl; goes = goes_none (stream_of s file []) part }
 
 -- the session with its line read further
 abbrev pub scanned : Session Scan → Scan → Session Scan

@@ -18,6 +18,9 @@ use Rattle.bus_text.specs.TextLines.{first_line, line_stop}
 abbrev pub stop_from : List ℕ → ℕ → Scan → Stop
 stop_from l i s = record { at = i + length (first_line (drop i l)); scan = fed_all s (first_line (drop i l)) }
 
+pub begins : (l : List ℕ) (s : Scan) → stop_from l 0 s ≡ line_stop l s
+begins l s = simp zero-add
+
 byte_more : (w : List ℕ) (i b : ℕ) (s : Scan) →
     ◌≡◌ {A = Stop} (record { at = suc i + length w; scan = fed_all (fed_of s b) w }) (record { at = i + length (b ∷ w); scan = fed_all s (b ∷ w) })
 byte_more w i b s = ap (λ (k : ℕ). record { at = k; scan = fed_all (fed_of s b) w }) (omega arith)

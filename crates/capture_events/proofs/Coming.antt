@@ -1,5 +1,5 @@
 -- From one sample to the next: with no time between them, a span passed, the rest passed.
-use Rattle.std.proofs.Common.{◌≡◌, ℕ, zero, suc, ◌+◌, ◌-◌, ◌/◌, ◌<◌, ◌≤◌, min, Option, Some, None, List, [], ◌∷◌, ◌++◌, length, drop, sym, refl, ap, ◌∙◌, append_assoc}
+use Rattle.std.proofs.Common.{◌≡◌, ℕ, zero, suc, ◌+◌, ◌-◌, ◌/◌, ◌%◌, ◌^◌, ◌<◌, ◌≤◌, min, Option, Some, None, List, [], ◌∷◌, ◌++◌, length, drop, sym, refl, ap, ◌∙◌, append_assoc, arith}
 use Rattle.lines.specs.declared.Lines.{Lines}
 use Rattle.event.specs.Numbers.{Numbers}
 use Rattle.capture_samples.specs.declared.Sample.{Sample}
@@ -8,7 +8,7 @@ use Rattle.capture_samples.proofs.Sampling.{next_sample, samples_end}
 use Rattle.capture_events.specs.Events.{event_of, gap_of, longest, passing, passing_of, changes_of, events_to, events_behind, events_of, capture_events}
 use Rattle.capture_events.specs.declared.Ahead.{Ahead}
 use Rattle.capture_events.specs.Coming.{reached_by, first_from, next_of, Coming, start_of, last_of, to_come}
-use Rattle.capture_events.proofs.Passing.{no_gap, gap_less, nothing_passes, some_passes}
+use Rattle.capture_events.proofs.Passing.{gap_back, no_gap, gap_less, nothing_passes, some_passes}
 
 module _ (earlier later : Sample) where
   -- no time between them
@@ -29,6 +29,12 @@ module _ (earlier later : Sample) where
       ap (λ (l : List Numbers). l ++ changes) (some_passes gap h)
       ∙ ap (λ (n : ℕ). passing (min gap longest) ∷ passing_of n ++ changes) (sym (gap_less later.stamp earlier.stamp))
 
+-- a line at a time, where no time is left
+module _ (at to : Sample) (e : at.stamp ≡ to.stamp) where
+  pub line_changes : {n : Numbers} (lines : Lines) → changes_of at.lines to.lines ≡ n ∷ changes_of lines to.lines
+      → events_to at to ≡ n ∷ events_to (record { stamp = at.stamp; lines = lines }) to
+  line_changes {n} lines h = no_time_lem at to e ∙ h ∙ ap (λ (l : List Numbers). n ∷ l) (sym (no_time_lem (record { stamp = at.stamp; lines = lines }) to e))
+
 abbrev ahead : ℕ → ℕ → Sample → Ahead
 ahead kind a further = record { kind = kind; a = a; reached = further }
 
@@ -42,19 +48,26 @@ module _ (at to : Sample) where
     comes = k;
   })
 
+  -- the rest of the time reaches the later stamp
+  pub rest_reaches : to.stamp < 2 ^ 32 → record { stamp = to.stamp; lines = at.lines } ≡ reached_by (passing (gap_of to.stamp at.stamp)) at
+  rest_reaches h =
+      let e : to.stamp ≡ (at.stamp + gap_of to.stamp at.stamp) % 2 ^ 32 = omega (arith, gap_back to.stamp at.stamp) in
+      λ i. record { stamp = e i; lines = at.lines }
+
+  pub nothing_next : events_to at to ≡ [] → Coming at to None
+  unfolding next_of
+  nothing_next k = record { is = sym (ap (λ (l : List Numbers). first_from l at) k); comes = k }
+
   -- where no time is left, a line
   module _ (t : at.stamp ≡ to.stamp) where
     pub line_next : {e : Ahead} (kind a : ℕ) (lines : Lines) → e ≡ ahead kind a (record { stamp = at.stamp; lines = lines })
         → record { stamp = at.stamp; lines = lines } ≡ reached_by (event_of kind a) at
         → changes_of at.lines to.lines ≡ event_of kind a ∷ changes_of lines to.lines → Coming at to (Some e)
     line_next kind a lines q r h =
-        event_next kind a _ q r (no_time_lem at to t ∙ h ∙ ap (λ (l : List Numbers). event_of kind a ∷ l) (sym (no_time_lem (record { stamp = at.stamp; lines = lines }) to t)))
+        event_next kind a _ q r (line_changes at to t lines h)
 
     pub none_next : changes_of at.lines to.lines ≡ [] → Coming at to None
-    unfolding next_of
-    none_next h =
-        let k = no_time_lem at to t ∙ h in
-        record { is = sym (ap (λ (l : List Numbers). first_from l at) k); comes = k }
+    none_next h = nothing_next (no_time_lem at to t ∙ h)
 
 -- what the next tells, where it is an event, is what the event reaches
 pub told_reached : {at to : Sample} {e : Ahead} → Coming at to (Some e) → e.reached ≡ reached_by (event_of e.kind e.a) at

@@ -3,6 +3,11 @@ use Rattle.std.proofs.Common.{◌≡◌, ℕ, zero, suc, ◌+◌, ◌-◌, ◌/�
 use Rattle.std.specs.Prelude.{if◌then◌else◌}
 use Rattle.capture_events.specs.Events.{gap_of, longest, passing, whole_spans, rest_span, passing_of}
 
+-- the wrapping difference is the one number that added to the earlier stamp runs over to the later
+pub gap_is : (later earlier gap : ℕ) → gap < 2 ^ 32 → (gap + earlier) % 2 ^ 32 ≡ later → gap ≡ gap_of later earlier
+unfolding gap_of
+gap_is later earlier gap h e = omega arith
+
 -- no time between two stamps only where they are the same
 pub same_stamp : (later earlier : ℕ) → later < 2 ^ 32 → earlier < 2 ^ 32 → gap_of later earlier ≡ 0 → earlier ≡ later
 unfolding gap_of
@@ -25,14 +30,14 @@ pub nothing_passes : passing_of 0 ≡ []
 unfolding passing_of
 nothing_passes = refl
 
-span_passes : (gap : ℕ) → longest ≤ gap → passing_of gap ≡ passing longest ∷ passing_of (gap - longest)
+pub span_passes : (gap : ℕ) → longest ≤ gap → passing_of gap ≡ passing longest ∷ passing_of (gap - longest)
 unfolding passing_of
 span_passes gap h =
     let d : gap / longest ≡ suc ((gap - longest) / longest) = omega arith in
     let m : gap % longest ≡ (gap - longest) % longest = omega arith in
     ap (λ (n : ℕ). whole_spans n ++ rest_span (gap % longest)) d ∙ ap (λ (r : ℕ). whole_spans (suc ((gap - longest) / longest)) ++ rest_span r) m
 
-rest_passes : (gap : ℕ) → 0 < gap → gap < longest → passing_of gap ≡ passing gap ∷ []
+pub rest_passes : (gap : ℕ) → 0 < gap → gap < longest → passing_of gap ≡ passing gap ∷ []
 unfolding passing_of
 rest_passes gap h k =
     let d : gap / longest ≡ 0 = omega arith in
